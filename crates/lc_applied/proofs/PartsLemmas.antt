@@ -6,21 +6,21 @@ use Rattle.lc_range.specs.declared.range.Range.{Range}
 use Rattle.lc_record.specs.declared.part.Part.{Part}
 use Rattle.lc_record.specs.declared.record.RangeData.{RangeData}
 use Rattle.lc_applied.specs.AppliedParts.{Applied}
-use Rattle.lc_applied.specs.Entry.{part_in, parts_of, ranges_of, runs_in, runs_used, AreUsedUp}
-use Rattle.lc_applied.specs.declared.entry.Entry.{Entry}
-use Rattle.lc_applied.specs.declared.entry.Entry.TheVariants.{Given, Own}
+use Rattle.lc_applied.specs.AppliedPart.{part_in, parts_of, ranges_of, runs_in, runs_used, AreUsedUp}
+use Rattle.lc_applied.specs.declared.applied_part.AppliedPart.{AppliedPart}
+use Rattle.lc_applied.specs.declared.applied_part.AppliedPart.TheVariants.{Given, Own}
 use Rattle.lc_applied.proofs.RunsLemmas.{ranges-front, total-parts}
 
-pub length-parts : (entries : List Entry) (runs : List Range) (bytes : List ℕ) → length (parts_of entries runs bytes) ≡ length entries
+pub length-parts : (entries : List AppliedPart) (runs : List Range) (bytes : List ℕ) → length (parts_of entries runs bytes) ≡ length entries
 length-parts [] runs bytes = refl
 length-parts (entry ∷ entries) runs bytes = ap suc (length-parts entries (drop (runs_used entry) runs) (drop (total_len (take (runs_used entry) runs)) bytes))
 
-pub runs_in-push : (entries : List Entry) (entry : Entry) → runs_in (entries ++ entry ∷ []) ≡ runs_in entries + runs_used entry
+pub runs_in-push : (entries : List AppliedPart) (entry : AppliedPart) → runs_in (entries ++ entry ∷ []) ≡ runs_in entries + runs_used entry
 runs_in-push [] entry = omega arith
 runs_in-push (first ∷ entries) entry = omega (arith, runs_in-push entries entry)
 
 -- the entries after the first have the runs and bytes after its own
-pub used-behind : (first : Entry) (entries : List Entry) (runs : List Range) (bytes : List ℕ) → AreUsedUp (first ∷ entries) runs bytes
+pub used-behind : (first : AppliedPart) (entries : List AppliedPart) (runs : List Range) (bytes : List ℕ) → AreUsedUp (first ∷ entries) runs bytes
     → AreUsedUp entries (drop (runs_used first) runs) (drop (total_len (take (runs_used first) runs)) bytes)
 used-behind first entries runs bytes are =
     let all = are.runs_are in
@@ -32,7 +32,7 @@ used-behind first entries runs bytes are =
     }
 
 -- one entry more, with these runs and bytes after those of the entries
-pub parts-push : (entries : List Entry) (entry : Entry) (runs more : List Range) (bytes own : List ℕ) → AreUsedUp entries runs bytes → runs_used entry ≤ length more
+pub parts-push : (entries : List AppliedPart) (entry : AppliedPart) (runs more : List Range) (bytes own : List ℕ) → AreUsedUp entries runs bytes → runs_used entry ≤ length more
     → parts_of (entries ++ entry ∷ []) (runs ++ more) (bytes ++ own) ≡ parts_of entries runs bytes ++ part_in entry more own ∷ []
 parts-push [] entry [] more [] own are few = refl
 parts-push [] entry [] more (b ∷ bytes) own are few = absurd (let none = are.bytes_are in omega (arith, none))
@@ -54,14 +54,14 @@ parts-push (first ∷ entries) entry runs more bytes own are few =
     ∙ ap (λ (l : List ℕ). part_in first runs bytes ∷ parts_of (entries ++ entry ∷ []) (drop n runs ++ more) l) (drop-append-le total bytes own enough_bytes)
     ∙ ap (λ (l : List Part). part_in first runs bytes ∷ l) (parts-push entries entry (drop n runs) more (drop total bytes) own later few)
   where
-    same_part : (first : Entry) (runs more : List Range) (bytes own : List ℕ) → runs_used first ≤ length runs → total_len (take (runs_used first) runs) ≤ length bytes → part_in first (runs ++ more) (bytes ++ own) ≡ part_in first runs bytes
+    same_part : (first : AppliedPart) (runs more : List Range) (bytes own : List ℕ) → runs_used first ≤ length runs → total_len (take (runs_used first) runs) ≤ length bytes → part_in first (runs ++ more) (bytes ++ own) ≡ part_in first runs bytes
     same_part (Given part) runs more bytes own enough enough_bytes = refl
     same_part (Own segment seq count) runs more bytes own enough enough_bytes =
         ap (λ (l : List Range). record { segment = segment; seq = seq; ranges = ranges_of l (bytes ++ own) }) (take-append-le count runs more enough)
         ∙ ap (λ (l : List RangeData). record { segment = segment; seq = seq; ranges = l }) (ranges-front (take count runs) bytes own enough_bytes)
 
 -- one part more as it was given
-pub parts-given : (entries : List Entry) (part : Part) (runs : List Range) (bytes : List ℕ) → AreUsedUp entries runs bytes → parts_of (entries ++ Given part ∷ []) runs bytes ≡ parts_of entries runs bytes ++ part ∷ []
+pub parts-given : (entries : List AppliedPart) (part : Part) (runs : List Range) (bytes : List ℕ) → AreUsedUp entries runs bytes → parts_of (entries ++ Given part ∷ []) runs bytes ≡ parts_of entries runs bytes ++ part ∷ []
 parts-given entries part runs bytes are =
     ap (λ (l : List Range). parts_of (entries ++ Given part ∷ []) l bytes) (sym (append-nil runs))
     ∙ ap (λ (l : List ℕ). parts_of (entries ++ Given part ∷ []) (runs ++ []) l) (sym (append-nil bytes))
@@ -82,7 +82,7 @@ pub record Seen (a : Applied) (count room runs_left bytes_left : ℕ) : Type 0 w
   pub runs_left_is : a.runs_left ≡ runs_left
   pub bytes_left_is : a.bytes_left ≡ bytes_left
 
-pub seen-of : (entries : List Entry) (runs : List Range) (bytes : List ℕ) (room runs_left bytes_left : ℕ) (a : Applied)
+pub seen-of : (entries : List AppliedPart) (runs : List Range) (bytes : List ℕ) (room runs_left bytes_left : ℕ) (a : Applied)
     → record { parts = parts_of entries runs bytes; room = room; runs_left = runs_left; bytes_left = bytes_left } ≡ a → Seen a (length entries) room runs_left bytes_left
 seen-of entries runs bytes room runs_left bytes_left a is = record {
   count_is = sym (ap (λ (x : Applied). length x.parts) is) ∙ length-parts entries runs bytes;

@@ -5,7 +5,7 @@ use Rattle.lc_range.specs.RangeSet.{EndWithin, total_len}
 use Rattle.lc_range.specs.declared.range.Range.{Range}
 use Rattle.lc_record.specs.declared.record.RangeData.{RangeData}
 use Rattle.lc_applied.specs.AppliedParts.{range_of_run}
-use Rattle.lc_applied.specs.Entry.{bytes_of, ranges_of}
+use Rattle.lc_applied.specs.AppliedPart.{bytes_of, ranges_of}
 
 -- How many bytes
 

@@ -1,2 +1,2 @@
 pub mod AppliedParts
-pub mod Entry
+pub mod AppliedPart

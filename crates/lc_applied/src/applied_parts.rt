@@ -3,9 +3,9 @@ ghost use Rattle.std.specs.Prelude.{◌≡◌, ◌==◌, ◌↔◌, ◌+◌, ◌
 ghost use Rattle.lc_range.specs.RangeSet.{EndWithin, total_len};
 ghost use Rattle.lc_applied.specs.AppliedParts.{HasRoom, HasRoomFor, laid_parts, part_of_runs, runs_of};
 
-use crate::entry::Entry;
+use crate::applied_part::AppliedPart;
+use crate::run_totals::RunTotals;
 use crate::runs::add_runs;
-use crate::size::Size;
 use lc_range::Range;
 use lc_record::Part;
 use lc_tx::Image;
@@ -17,7 +17,7 @@ use std::marker::Model;
 /// own. A part that came from a peer is kept as it is. This project's own.
 #[derive(Drop)]
 pub struct AppliedParts {
-    entries: Vec<Entry>,
+    entries: Vec<AppliedPart>,
     runs: Vec<Range>,
     bytes: Vec<u8>,
 }
@@ -28,7 +28,7 @@ impl Model for AppliedParts {
 
     ghost Value = { Applied };
 
-    ghost use Rattle.lc_applied.specs.Entry.{parts_of, AreUsedUp};
+    ghost use Rattle.lc_applied.specs.AppliedPart.{parts_of, AreUsedUp};
 
     ghost view = { λ a. record {
       parts = parts_of a.entries.items a.runs.items a.bytes.items;
@@ -102,7 +102,7 @@ impl AppliedParts {
         ensures there { HasRoomFor segment runs.now self.old → self.new ≡ self.old }
         ensures refused { OnErr result (HasRoomFor segment runs.now self.old → ⊥) }
     {
-        let size = Size::of(segment, runs);
+        let size = RunTotals::of(segment, runs);
         if self.has_room(size) {
             return Ok(());
         }
@@ -110,7 +110,7 @@ impl AppliedParts {
     }
 
     // Whether there is room for a part of this size.
-    fn has_room(&self, size: Size) -> bool
+    fn has_room(&self, size: RunTotals) -> bool
         ensures room { IsTrue result ↔ HasRoom size.runs size.bytes self.now }
         ensures small { self.now.bytes_left < 2 ^ 63 }
     {
@@ -123,7 +123,7 @@ impl AppliedParts {
     }
 
     // Makes room for a part of this size.
-    fn grow(&mut self, size: Size) -> Result<(), AllocError>
+    fn grow(&mut self, size: RunTotals) -> Result<(), AllocError>
         ensures parts { self.new.parts ≡ self.old.parts }
         ensures room { self.old.room ≤ self.new.room }
         ensures runs_left { self.old.runs_left ≤ self.new.runs_left }
@@ -141,7 +141,7 @@ impl AppliedParts {
         requires { length self.old.parts < self.old.room }
         ensures { self.new ≡ record self.old { parts = self.old.parts ++ part ∷ [] } }
     {
-        self.entries.push_reserved(Entry::Given(part));
+        self.entries.push_reserved(AppliedPart::Given(part));
     }
 
     /// Adds the part that these runs have of a segment, under a number, with the bytes that the segment's image has in
@@ -155,7 +155,7 @@ impl AppliedParts {
         ensures bytes_left { self.old.bytes_left ≤ self.new.bytes_left + total_len (runs_of segment runs.now) }
     {
         let count = add_runs(&mut self.runs, &mut self.bytes, segment, runs, image);
-        let own = Entry::Own {
+        let own = AppliedPart::Own {
             segment,
             seq,
             runs: count,

@@ -2,11 +2,11 @@
 //! on an image, they make of its bytes what each part, put on after another, makes.
 #![tactic(auto)]
 
+mod applied_part;
 mod applied_parts;
-mod entry;
 mod laws;
+mod run_totals;
 mod runs;
-mod size;
 
 pub use applied_parts::AppliedParts;
 pub use laws::part_of_record;

@@ -2,7 +2,7 @@
 ghost use Rattle.std.specs.Prelude.{◌≡◌, ◌+◌, ◌<◌, ◌≤◌, ◌++◌, ◌∷◌, [], drop, length, take, vec_len, vec_capacity};
 ghost use Rattle.lc_range.specs.RangeSet.{EndWithin, total_len};
 ghost use Rattle.lc_applied.specs.AppliedParts.{runs_of};
-ghost use Rattle.lc_applied.specs.Entry.{bytes_of};
+ghost use Rattle.lc_applied.specs.AppliedPart.{bytes_of};
 
 use lc_range::Range;
 

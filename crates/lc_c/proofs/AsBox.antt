@@ -8,7 +8,7 @@ use Rattle.std_heap.specs.contracts.GlobalAllocator.TheImpl.{ghosts, dict}
 use Rattle.std_heap.proofs.Global.TheLaws as heap
 use Rattle.lc_c.specs.contracts.session.Session as Session
 use Rattle.lc_c.proofs.session.Session.TheLaws as session
-use Rattle.lc_c.specs.contracts.parts.Parts as Parts
+use Rattle.lc_c.specs.contracts.box_parts.BoxParts as Parts
 use Rattle.lc_c.specs.contracts.handle.Handle as Handle
 
 abbrev pub E : Bx

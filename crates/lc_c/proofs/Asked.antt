@@ -10,7 +10,7 @@ use Rattle.lc_c.specs.Answer.{of_refusal, of_reply}
 use Rattle.lc_c.specs.Calls.{AreaIf, Fills, StartsBy, StartsIf, StepsIf, TellsBytes, TellsCall, call_in, read_in}
 use Rattle.lc_c.specs.Lent.{with_session}
 use Rattle.lc_c.specs.Mirrors.{window_in}
-use Rattle.lc_c.specs.Stage.{AreaAt, StepsStage}
+use Rattle.lc_c.specs.SessionState.{AreaAt, StepsStage}
 use Rattle.lc_c.specs.declared.answer.Answer.{Answer}
 use Rattle.lc_c.specs.declared.handle.Handle.{Handle}
 use Rattle.lc_c.specs.declared.last_call.LastCall.{LastCall}

@@ -17,7 +17,7 @@ use Rattle.core.proofs.alloc.Calls.{Fits, handle_tells, token}
 use Rattle.std_alloc.proofs.BoxSteps.Form.{Bx, D, P, R, X, handle, word, τ}
 use Rattle.std_alloc.proofs.BoxSteps.Steps.{box_in, box_out}
 use Rattle.std_alloc.specs.Box.Ownership.{box_owns}
-use Rattle.lc_c.specs.contracts.parts.Parts as parts
+use Rattle.lc_c.specs.contracts.box_parts.BoxParts as parts
 
 module _ (E : Bx) where
   abbrev pub Apart : RattleType

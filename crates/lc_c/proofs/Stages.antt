@@ -18,20 +18,20 @@ use Rattle.lc_core.specs.Lives.{Anyhow, StillLives}
 use Rattle.lc_core.specs.Recovers.{RefusesAtOnce}
 use Rattle.lc_core.specs.Truncating.{StepsTo}
 use Rattle.lc_core.specs.World.{AsksIn, AsksWorld, FollowsWorld, StillFitsWorld}
-use Rattle.lc_c.specs.Stage.{StepsStage, Store, is_step, replied}
+use Rattle.lc_c.specs.SessionState.{StepsStage, SessionStore, is_step, replied}
 use Rattle.lc_c.specs.contracts.mirror_area.MirrorAreaArea.TheImpl.{ghosts}
-use Rattle.lc_c.specs.declared.stage.Stage.{Stage}
-use Rattle.lc_c.specs.declared.stage.Stage.TheVariants.{Open}
+use Rattle.lc_c.specs.declared.session_state.SessionState.{SessionState}
+use Rattle.lc_c.specs.declared.session_state.SessionState.TheVariants.{Open}
 
 no_stop : (event : Event) → is_step event ≡ true → (choices : List (List Choice)) → event ≡ Stop choices → ⊥
 no_stop event step choices is = let stops : false ≡ true = subst (λ e. is_step e ≡ true) is step in cc
 
 -- a store that is open comes to what its step says
-pub steps_open : (stage : Stage) (store after : Store) (event : Event) (said : Result Reply AllocError) → stage ≡ Open store
+pub steps_open : (stage : SessionState) (store after : SessionStore) (event : Event) (said : Result Reply AllocError) → stage ≡ Open store
     → ComesTo ghosts store event (replied said) after → StepsStage stage event said (Open after)
 steps_open stage store after event said is comes = subst (λ s. StepsStage s event said (Open after)) (sym is) (after, refl, comes)
 
-module _ (store : Store) (event : Event) (after : Store) where
+module _ (store : SessionStore) (event : Event) (after : SessionStore) where
   pub comes : (said : Result Reply AllocError) → is_step event ≡ true
       → IfOk said (λ reply. FollowsWorld ghosts store event reply after) → OnErr said (AsksWorld ghosts store event) → OnErr said (StillFitsWorld ghosts store after)
       → OnErr said (StillLives ghosts store.phase after.phase)
@@ -48,12 +48,12 @@ module _ (store : Store) (event : Event) (after : Store) where
       record { asks = asks; at_all = at_all; still = still; lives = lives; failures = failures; geometry = geometry; kept = kept }
 
 -- the same of a read, which leaves the store
-pub reads_open : {X : Type 0} (stage : Stage) (store : Store) (event : Event) (reply : Reply) (result : Result X Refusal) → stage ≡ Open store
+pub reads_open : {X : Type 0} (stage : SessionState) (store : SessionStore) (event : Event) (reply : Reply) (result : Result X Refusal) → stage ≡ Open store
     → IfOk result (λ its. StepsTo ghosts store event reply store) → IfOk result (λ its. StepsStage stage event (Ok reply) stage)
 reads_open stage store event reply (Ok its) is steps = subst (λ s. StepsStage s event (Ok reply) s) (sym is) (store, refl, steps)
 reads_open stage store event reply (Err refusal) is steps = steps
 
-pub refuses_open : {X : Type 0} (stage : Stage) (store : Store) (event : Event) (result : Result X Refusal) → stage ≡ Open store
+pub refuses_open : {X : Type 0} (stage : SessionState) (store : SessionStore) (event : Event) (result : Result X Refusal) → stage ≡ Open store
     → IfErr result (λ refusal. StepsTo ghosts store event (Refused refusal) store) → IfErr result (λ refusal. StepsStage stage event (Ok (Refused refusal)) stage)
 refuses_open stage store event (Ok its) is steps = steps
 refuses_open stage store event (Err refusal) is steps = subst (λ s. StepsStage s event (Ok (Refused refusal)) s) (sym is) (store, refl, steps)

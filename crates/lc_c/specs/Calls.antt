@@ -13,10 +13,10 @@ use Rattle.lc_c.specs.Aborts.{Aborts}
 use Rattle.lc_c.specs.Answer.{answer_of}
 use Rattle.lc_c.specs.BeginsFree.{BeginsFree}
 use Rattle.lc_c.specs.Beside.{IsSameBeside}
-use Rattle.lc_c.specs.Kept.{IsNone}
+use Rattle.lc_c.specs.SuspendedTransactions.{IsNone}
 use Rattle.lc_c.specs.LastCall.{call_of}
 use Rattle.lc_c.specs.Mirrors.{window_in}
-use Rattle.lc_c.specs.Stage.{AreaAt, IsAdded, StartsStage, StepsStage, gathered, geometry_of, is_gathering}
+use Rattle.lc_c.specs.SessionState.{AreaAt, IsAdded, StartsStage, StepsStage, gathered, geometry_of, is_gathering}
 use Rattle.lc_c.specs.declared.answer.Answer.{Answer}
 use Rattle.lc_c.specs.declared.handle.Handle.{Handle}
 use Rattle.lc_c.specs.declared.last_call.LastCall.{LastCall}

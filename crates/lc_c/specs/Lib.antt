@@ -1,13 +1,13 @@
 pub mod MirrorArea
 pub mod Mirrors
-pub mod Stage
+pub mod SessionState
 pub mod Answer
 pub mod LastCall
 pub mod Handle
 pub mod Lent
 pub mod Beside
 pub mod BeginsFree
-pub mod Kept
+pub mod SuspendedTransactions
 pub mod SetsAside
 pub mod Restores
 pub mod Aborts

@@ -6,11 +6,11 @@ use Rattle.lc_core.specs.Truncation.{IsFewer, IsOf, Leads, MakesOneOf, Remains, 
 use Rattle.lc_core.specs.declared.truncation.Truncation.{Truncation}
 use Rattle.lc_core.specs.declared.truncation_step.TruncationStep.{TruncationStep}
 use Rattle.lc_core.specs.declared.truncation_step.TruncationStep.TheVariants.{Continues, Ends}
-use Rattle.lc_c.specs.Stage.{Store, refusal_of}
+use Rattle.lc_c.specs.SessionState.{SessionStore, refusal_of}
 use Rattle.lc_c.specs.contracts.mirror_area.MirrorAreaArea.TheImpl.{ghosts}
 use Rattle.lc_c.specs.declared.session.Session.{Session}
-use Rattle.lc_c.specs.declared.stage.Stage.{Stage}
-use Rattle.lc_c.specs.declared.stage.Stage.TheVariants.{Open}
+use Rattle.lc_c.specs.declared.session_state.SessionState.{SessionState}
+use Rattle.lc_c.specs.declared.session_state.SessionState.TheVariants.{Open}
 
 -- the truncation that is under way at the node, or else a new one
 abbrev pub going_on : Option Truncation → ℕ → Truncation
@@ -28,15 +28,15 @@ reply_of (Continues next) = Stepped 0
 reply_of (Ends reply) = reply
 
 -- what remained of the truncation is this step and what remains then; it makes one call of a device at most
-pub record TakesStep (truncation : Truncation) (old : Store) (step : TruncationStep) (new : Store) : Type 0 where
+pub record TakesStep (truncation : Truncation) (old : SessionStore) (step : TruncationStep) (new : SessionStore) : Type 0 where
   pub remains : Leads ghosts (Remains ghosts truncation) old step new
   pub one : MakesOneOf ghosts truncation.node old step new
   pub fewer : IsFewer ghosts (steps_left truncation) step
   pub node : IsOf ghosts truncation.node step
 
 -- so it is of a store that is open; one that is not refuses it
-abbrev pub TruncatesStage : Stage → Truncation → TruncationStep → Stage → Type 0
-TruncatesStage (Open store) truncation step new = (after : Store) × (new ≡ Open after) × TakesStep truncation store step after
+abbrev pub TruncatesStage : SessionState → Truncation → TruncationStep → SessionState → Type 0
+TruncatesStage (Open store) truncation step new = (after : SessionStore) × (new ≡ Open after) × TakesStep truncation store step after
 TruncatesStage stage truncation step new = (step ≡ Ends (Refused (refusal_of stage))) × (new ≡ stage)
 
 pub record Truncates (node : ℕ) (old : Session) (reply : Reply) (new : Session) : Type 0 where

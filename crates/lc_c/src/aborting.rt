@@ -2,7 +2,7 @@
 ghost use Rattle.lc_c.specs.Aborts.{Aborts};
 
 use crate::session::Session;
-use crate::stage::Stage;
+use crate::session_state::SessionState;
 use lc_core::Reply;
 use std::alloc::Global;
 
@@ -12,7 +12,7 @@ impl Session {
         ensures { Aborts node thread self.old result self.new }
     {
         match &mut self.stage {
-            Stage::Open(world) => match world.abort(alloc, node, thread) {
+            SessionState::Open(world) => match world.abort(alloc, node, thread) {
                 Ok(()) => {
                     self.kept.forget(node, thread);
                     Reply::Ok

@@ -1,6 +1,6 @@
 //! A transaction that was aborted, and begins again with the same locks.
 ghost use Rattle.std.specs.Prelude.{IfOk};
-ghost use Rattle.lc_c.specs.Kept.{IsAside};
+ghost use Rattle.lc_c.specs.SuspendedTransactions.{IsAside};
 
 use lc_tx::Tx;
 use std::alloc::{AllocError, Global};

@@ -4,7 +4,7 @@ ghost use Rattle.lc_c.specs.BeginsFree.{BeginsFree, is_taken, threads_in};
 ghost use Rattle.lc_c.specs.Beside.{IsSameBeside};
 
 use crate::session::Session;
-use crate::stage::Stage;
+use crate::session_state::SessionState;
 use lc_core::{Refusal, Reply};
 
 impl Session {
@@ -29,7 +29,7 @@ impl Session {
         ensures { result ≡ threads_in self.now.stage }
     {
         match &self.stage {
-            Stage::Open(world) => world.threads(),
+            SessionState::Open(world) => world.threads(),
             _ => 0,
         }
     }

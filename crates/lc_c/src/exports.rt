@@ -3,8 +3,8 @@ ghost use Rattle.std.specs.Prelude.{◌≡◌, ◌⊎◌, [], true, false, Ok, S
 ghost use Rattle.lc_record.specs.Geometry.{HasNumbers, IsGeometry};
 ghost use Rattle.lc_model.specs.declared.event.Event.TheVariants.{Arrive, Begin, Close, Deliver, FlushStep, Leave, Read, RecoverStep, Reserve, SetRange, Trim, Write};
 ghost use Rattle.lc_c.specs.Calls.{AbortsBy, AbortsIf, AddsIf, BeginsBy, BeginsIf, Fills, IsBegun, StartsIf, Steps, StepsIf, TellsBytes, TellsCall};
-ghost use Rattle.lc_c.specs.Stage.{is_step};
-ghost use Rattle.lc_c.specs.declared.stage.Stage.TheVariants.{Over};
+ghost use Rattle.lc_c.specs.SessionState.{is_step};
+ghost use Rattle.lc_c.specs.declared.session_state.SessionState.TheVariants.{Over};
 
 use crate::answer::{Answer, DONE, NO_MEMORY};
 use crate::handle::Handle;

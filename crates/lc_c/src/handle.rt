@@ -3,7 +3,7 @@ ghost use Rattle.std.specs.Prelude.{◌≡◌, true};
 ghost use Rattle.lc_c.specs.declared.session.Session.{Session};
 ghost use Rattle.lc_c.specs.Handle.{handle_owns, owned_if, session_coded};
 
-use crate::parts::Parts;
+use crate::box_parts::BoxParts;
 use crate::session::Session;
 use std::alloc::Global;
 use std::marker::Model;
@@ -29,7 +29,7 @@ impl Handle {
         ensures held { result.held ≡ true }
         ensures value { result.value ≡ value.value }
     {
-        Handle::of_parts(Parts::of(value))
+        Handle::of_parts(BoxParts::of(value))
     }
 
     pub fn into_box(self) -> Box<Session>
@@ -53,10 +53,10 @@ impl Handle {
         unsafe { &mut *(self.at as *mut Session) }
     }
 
-    fn of_parts(parts: Parts<Session, Global>) -> Handle
+    fn of_parts(parts: BoxParts<Session, Global>) -> Handle
         ensures { (result.held ≡ true) × (result.value ≡ parts.value) }
     {
-        let Parts { ptr, alloc } = parts;
+        let BoxParts { ptr, alloc } = parts;
         Handle {
             at: ptr as *mut u8,
             held: true,
@@ -64,12 +64,12 @@ impl Handle {
         }
     }
 
-    fn into_parts(self) -> Parts<Session, Global>
+    fn into_parts(self) -> BoxParts<Session, Global>
         requires { self.held ≡ true }
         ensures { result.value ≡ self.value }
     {
         let Handle { at, held: _, alloc } = self;
-        Parts {
+        BoxParts {
             ptr: at as *mut Session,
             alloc,
         }

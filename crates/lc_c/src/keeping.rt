@@ -1,13 +1,13 @@
 //! What the open transactions of a node hold.
 ghost use Rattle.std.specs.Prelude.{IfOk, IfErr};
-ghost use Rattle.lc_c.specs.Kept.{AddsTo, AreAside, AreHeld, AreKept, AreLocks, AreLocksOf, HoldEach, Holds, RefusesRead, ranges_in};
+ghost use Rattle.lc_c.specs.SuspendedTransactions.{AddsTo, AreAside, AreHeld, AreKept, AreLocks, AreLocksOf, HoldEach, Holds, RefusesRead, ranges_in};
 ghost use Rattle.lc_core.specs.OpenTransactions.{open_transaction};
 ghost use Rattle.lc_c.specs.contracts.mirror_area.MirrorAreaArea.TheImpl.{ghosts};
 
+use crate::aborted_range::AbortedRange;
 use crate::aside::Aside;
-use crate::kept::Kept;
 use crate::mirror_area::MirrorArea;
-use crate::piece::Piece;
+use crate::suspended_transactions::SuspendedTransactions;
 use lc_core::{CallFault, World};
 use lc_range::Range;
 use lc_tx::Tx;
@@ -19,11 +19,15 @@ use std::alloc::{AllocError, Global};
 /// # Errors
 ///
 /// That of a range which is not read, and `NoMemory`.
-pub(crate) fn held(alloc: Global, world: &World<MirrorArea>, node: u16) -> Result<Kept, CallFault>
+pub(crate) fn held(
+    alloc: Global,
+    world: &World<MirrorArea>,
+    node: u16,
+) -> Result<SuspendedTransactions, CallFault>
     ensures kept { IfOk result (AreKept world.now node) }
     ensures refused { IfErr result (RefusesRead world.now node) }
 {
-    Ok(Kept {
+    Ok(SuspendedTransactions {
         asides: asides_of(alloc, world, node)?,
         pieces: pieces_of(alloc, world, node)?,
     })
@@ -73,7 +77,11 @@ fn add_locks(
 }
 
 // What the ranges hold of the transactions of a node that are open.
-fn pieces_of(alloc: Global, world: &World<MirrorArea>, node: u16) -> Result<Vec<Piece>, CallFault>
+fn pieces_of(
+    alloc: Global,
+    world: &World<MirrorArea>,
+    node: u16,
+) -> Result<Vec<AbortedRange>, CallFault>
     ensures kept { IfOk result (λ pieces. AreHeld world.now node pieces.items) }
     ensures refused { IfErr result (RefusesRead world.now node) }
 {
@@ -90,7 +98,7 @@ fn add_pieces(
     world: &World<MirrorArea>,
     node: u16,
     thread: u16,
-    pieces: &mut Vec<Piece>,
+    pieces: &mut Vec<AbortedRange>,
 ) -> Result<(), CallFault>
     ensures kept { IfOk result (λ _. AddsTo (HoldEach world.now node thread (ranges_in (open_transaction ghosts world.now.phase node thread))) pieces.old.items pieces.new.items) }
     ensures refused { IfErr result (RefusesRead world.now node) }
@@ -108,7 +116,7 @@ fn keep_ranges(
     node: u16,
     thread: u16,
     ranges: &[Range],
-    pieces: &mut Vec<Piece>,
+    pieces: &mut Vec<AbortedRange>,
 ) -> Result<(), CallFault>
     ensures kept { IfOk result (λ _. AddsTo (HoldEach world.now node thread ranges.now) pieces.old.items pieces.new.items) }
     ensures refused { IfErr result (RefusesRead world.now node) }
@@ -127,7 +135,7 @@ fn piece_of(
     node: u16,
     thread: u16,
     range: Range,
-) -> Result<Piece, CallFault>
+) -> Result<AbortedRange, CallFault>
     ensures kept { IfOk result (Holds world.now node thread range) }
     ensures refused { IfErr result (RefusesRead world.now node) }
 {
@@ -138,7 +146,7 @@ fn piece_of(
         range.offset,
         range.len as usize,
     ) {
-        Ok(bytes) => Ok(Piece::of(alloc, node, thread, range, bytes)?),
+        Ok(bytes) => Ok(AbortedRange::of(alloc, node, thread, range, bytes)?),
         Err(refusal) => Err(CallFault::Refused(refusal)),
     }
 }

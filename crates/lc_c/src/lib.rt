@@ -2,22 +2,22 @@
 //! area.
 #![tactic(auto)]
 
+mod aborted_range;
 mod aborting;
 mod answer;
 mod area_call;
 mod aside;
 mod begin_free;
+mod box_parts;
 mod emptying_exports;
 mod exports;
 mod handle;
 mod keeping;
-mod kept;
 mod last_call;
 mod mirror_area;
-mod parts;
-mod piece;
 mod restoring;
 mod session;
+mod session_state;
 mod setting_aside;
-mod stage;
+mod suspended_transactions;
 mod truncating;

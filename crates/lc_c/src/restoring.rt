@@ -1,10 +1,10 @@
 //! How a transaction that was set aside gets back what its ranges held.
 ghost use Rattle.lc_c.specs.Restores.{GivesBack, Restores, RestoresStage};
 
+use crate::aborted_range::AbortedRange;
 use crate::mirror_area::MirrorArea;
-use crate::piece::Piece;
 use crate::session::Session;
-use crate::stage::Stage;
+use crate::session_state::SessionState;
 use lc_core::{CallFault, World};
 use std::alloc::Global;
 
@@ -19,7 +19,13 @@ impl Session {
         ensures { RestoresStage node thread self.old result self.new }
     {
         match &mut self.stage {
-            Stage::Open(world) => restore_pieces(alloc, world, &mut self.kept.pieces, node, thread),
+            SessionState::Open(world) => restore_pieces(
+                alloc,
+                world,
+                &mut self.kept.pieces,
+                node,
+                thread,
+            ),
             stage => Err(CallFault::Refused(stage.refusal())),
         }
     }
@@ -29,7 +35,7 @@ impl Session {
 fn restore_pieces(
     alloc: Global,
     world: &mut World<MirrorArea>,
-    pieces: &mut Vec<Piece>,
+    pieces: &mut Vec<AbortedRange>,
     node: u16,
     thread: u16,
 ) -> Result<(), CallFault>
@@ -49,7 +55,11 @@ fn restore_pieces(
 }
 
 // Its range is set again, and its bytes are written there.
-fn give_back(alloc: Global, world: &mut World<MirrorArea>, piece: &Piece) -> Result<(), CallFault>
+fn give_back(
+    alloc: Global,
+    world: &mut World<MirrorArea>,
+    piece: &AbortedRange,
+) -> Result<(), CallFault>
     ensures { GivesBack piece.now world.old result world.new }
 {
     let range = piece.range;

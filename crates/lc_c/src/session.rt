@@ -5,16 +5,16 @@ ghost use Rattle.lc_model.specs.declared.reply.Reply.TheVariants.{Bytes, Refused
 ghost use Rattle.lc_core.specs.declared.call_fault.CallFault.TheVariants.{NoMemory, Refused as IsRefused};
 ghost use Rattle.lc_model.specs.declared.refusal.Refusal.TheVariants.{OutOfTurn};
 ghost use Rattle.lc_core.specs.Answered.{done as done_reply};
-ghost use Rattle.lc_c.specs.declared.stage.Stage.TheVariants.{Over};
+ghost use Rattle.lc_c.specs.declared.session_state.SessionState.TheVariants.{Over};
 ghost use Rattle.lc_c.specs.Mirrors.{window_in};
 ghost use Rattle.lc_c.specs.declared.mirror_area.MirrorArea.{MirrorArea as Mirror};
-ghost use Rattle.lc_c.specs.Kept.{IsNone};
+ghost use Rattle.lc_c.specs.SuspendedTransactions.{IsNone};
 ghost use Rattle.lc_c.specs.Beside.{IsSameBeside};
-ghost use Rattle.lc_c.specs.Stage.{AreaAt, IsAdded, StartsStage, StepsStage, gathered, geometry_of, is_gathering, is_step};
+ghost use Rattle.lc_c.specs.SessionState.{AreaAt, IsAdded, StartsStage, StepsStage, gathered, geometry_of, is_gathering, is_step};
 
-use crate::kept::Kept;
 use crate::mirror_area::MirrorArea;
-use crate::stage::Stage;
+use crate::session_state::SessionState;
+use crate::suspended_transactions::SuspendedTransactions;
 use lc_core::{CallFault, Event, Refusal, Reply, Truncation, World};
 use lc_record::Geometry;
 use lc_recover::RecoverFault;
@@ -25,10 +25,10 @@ use std::mem;
 /// project's own.
 #[derive(Drop)]
 pub struct Session {
-    pub(crate) stage: Stage,
+    pub(crate) stage: SessionState,
     /// The truncation of a node's log that is under way.
     pub(crate) truncation: Option<Truncation>,
-    pub(crate) kept: Kept,
+    pub(crate) kept: SuspendedTransactions,
 }
 
 impl Session {
@@ -41,12 +41,12 @@ impl Session {
         ensures truncation { result.truncation ≡ None }
     {
         Session {
-            stage: Stage::Gathering {
+            stage: SessionState::Gathering {
                 geometry,
                 areas: Vec::new(alloc),
             },
             truncation: None,
-            kept: Kept::new(alloc),
+            kept: SuspendedTransactions::new(alloc),
         }
     }
 
@@ -64,7 +64,7 @@ impl Session {
         ensures refused { IfErr result (λ fault. is_gathering self.old.stage ≡ true → fault ≡ NoMemory) }
         ensures beside { IsSameBeside self.old self.new }
     {
-        let Stage::Gathering { areas, .. } = &mut self.stage else {
+        let SessionState::Gathering { areas, .. } = &mut self.stage else {
             return Err(CallFault::Refused(Refusal::OutOfTurn));
         };
         areas.reserve(1)?;
@@ -82,8 +82,8 @@ impl Session {
         ensures starts { StartsStage self.old.stage result self.new.stage }
         ensures beside { IsSameBeside self.old self.new }
     {
-        let (geometry, areas) = match mem::replace(&mut self.stage, Stage::Over) {
-            Stage::Gathering { geometry, areas } => (geometry, areas),
+        let (geometry, areas) = match mem::replace(&mut self.stage, SessionState::Over) {
+            SessionState::Gathering { geometry, areas } => (geometry, areas),
             stage => {
                 self.stage = stage;
                 return Err(Refusal::OutOfTurn);
@@ -91,7 +91,7 @@ impl Session {
         };
         match World::new(geometry, areas) {
             Ok(world) => {
-                self.stage = Stage::Open(world);
+                self.stage = SessionState::Open(world);
                 Ok(())
             }
             Err((_, RecoverFault::BadGeometry { area })) => Err(Refusal::BadGeometry { area }),
@@ -110,7 +110,7 @@ impl Session {
         ensures beside { IsSameBeside self.old self.new }
     {
         match &mut self.stage {
-            Stage::Open(world) => world.step(alloc, event),
+            SessionState::Open(world) => world.step(alloc, event),
             stage => Ok(Reply::Refused(stage.refusal())),
         }
     }
@@ -127,7 +127,7 @@ impl Session {
         ensures beside { IsSameBeside self.old self.new }
     {
         match &mut self.stage {
-            Stage::Open(world) => said(world.begin(node, thread, writing, reading)),
+            SessionState::Open(world) => said(world.begin(node, thread, writing, reading)),
             stage => Reply::Refused(stage.refusal()),
         }
     }
@@ -145,7 +145,7 @@ impl Session {
         ensures beside { IsSameBeside self.old self.new }
     {
         match &mut self.stage {
-            Stage::Open(world) => said(world.write(node, thread, segment, offset, bytes)),
+            SessionState::Open(world) => said(world.write(node, thread, segment, offset, bytes)),
             stage => Reply::Refused(stage.refusal()),
         }
     }
@@ -168,7 +168,7 @@ impl Session {
         ensures kept { IfErr result (λ _. buffer.new ≡ buffer.old) }
     {
         match &self.stage {
-            Stage::Open(world) => world.read(node, thread, segment, offset, buffer),
+            SessionState::Open(world) => world.read(node, thread, segment, offset, buffer),
             stage => Err(stage.refusal()),
         }
     }
@@ -178,9 +178,9 @@ impl Session {
         ensures { AreaAt self.now.stage place (option_copied result) }
     {
         match &self.stage {
-            Stage::Gathering { areas, .. } => areas.get(place),
-            Stage::Open(world) => world.area(place),
-            Stage::Over => None,
+            SessionState::Gathering { areas, .. } => areas.get(place),
+            SessionState::Open(world) => world.area(place),
+            SessionState::Over => None,
         }
     }
 
@@ -196,7 +196,7 @@ impl Session {
         ensures over { self.new.stage ≡ Over }
         ensures beside { IsSameBeside self.old self.new }
     {
-        self.stage = Stage::Over;
+        self.stage = SessionState::Over;
     }
 }
 

@@ -5,7 +5,7 @@ use crate::aside::Aside;
 use crate::keeping::held;
 use crate::mirror_area::MirrorArea;
 use crate::session::Session;
-use crate::stage::Stage;
+use crate::session_state::SessionState;
 use lc_core::{CallFault, Refusal, World};
 use std::alloc::Global;
 
@@ -20,7 +20,7 @@ impl Session {
         ensures { AsideBy node self.old result self.new }
     {
         match &mut self.stage {
-            Stage::Open(world) => {
+            SessionState::Open(world) => {
                 let more = held(alloc, world, node)?;
                 self.kept.make_room(&more)?;
                 abort_each(alloc, world, more.asides.as_slice());
@@ -40,7 +40,7 @@ impl Session {
         ensures { BringsBack self.old result self.new }
     {
         match &mut self.stage {
-            Stage::Open(world) => {
+            SessionState::Open(world) => {
                 begin_each(world, self.kept.asides.as_slice());
                 self.kept.asides.clear();
                 Ok(())

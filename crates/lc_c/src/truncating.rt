@@ -3,7 +3,7 @@ ghost use Rattle.std.specs.Prelude.{◌≡◌};
 ghost use Rattle.lc_c.specs.Truncating.{Truncates, TruncatesStage, going_on};
 
 use crate::session::Session;
-use crate::stage::Stage;
+use crate::session_state::SessionState;
 use lc_core::{Reply, Truncation, TruncationStep};
 use std::alloc::Global;
 
@@ -27,13 +27,13 @@ impl Session {
     }
 }
 
-impl Stage {
+impl SessionState {
     // The next device call of a truncation; a store that is not open refuses it.
     fn truncate_step(&mut self, alloc: Global, truncation: Truncation) -> TruncationStep
         ensures { TruncatesStage self.old truncation result self.new }
     {
         match self {
-            Stage::Open(world) => world.truncate_step(alloc, truncation),
+            SessionState::Open(world) => world.truncate_step(alloc, truncation),
             stage => TruncationStep::Ends(Reply::Refused(stage.refusal())),
         }
     }

@@ -5,8 +5,8 @@ use Rattle.std.proofs.lemmas.Bool.{cases_eq}
 use Rattle.lc_stage.specs.Receipts.{IsReceiptOf}
 use Rattle.lc_stage.specs.Staging.{Owns}
 use Rattle.lc_stage.specs.declared.receipt.Receipt.{Receipt}
-use Rattle.lc_stage.specs.declared.view.Reservation.{Reservation}
-use Rattle.lc_stage.specs.declared.view.View.{View}
+use Rattle.lc_stage.specs.declared.stage_view.Reservation.{Reservation}
+use Rattle.lc_stage.specs.declared.stage_view.StageView.{StageView}
 use Rattle.lc_node.specs.Among.{IsAmong}
 use Rattle.lc_node.specs.LogView.{LogView}
 use Rattle.lc_node.specs.declared.confirming.Confirmed.{Confirmed}
@@ -23,7 +23,7 @@ pub present : {A : Type 0} (f : A → List ℕ) (o : Option A) (x : A) (words : 
 present f None x words is some = absurd cc
 present f (Some y) x words is some = let same : y ≡ x = cc in ap f (sym same) ∙ (let got : f y ≡ words = cc in got)
 
-module _ {D : Type 0} (v : View) (receipt : Receipt) (log : LogView D) (answer : Confirmed)
+module _ {D : Type 0} (v : StageView) (receipt : Receipt) (log : LogView D) (answer : Confirmed)
     (here : receipt.round ≡ log.round → (index : ℕ) × (answer ≡ Here index) × ((r : Reservation) → Owns v.receipts r → IsReceiptOf r receipt → IsAmong log.stable index r.place r.words))
     (earlier : receipt.round ≢ log.round → (answer ≡ Earlier log.round) × (receipt.round < log.round)) where
   among : (index : ℕ) → answer ≡ Here index → (r : Reservation) → Owns v.receipts r → IsReceiptOf r receipt → IsAmong log.stable index r.place r.words

@@ -3,17 +3,17 @@ use Rattle.std.specs.Prelude.{◌≡◌, Option, None, Some}
 use Rattle.lc_stage.specs.Seats.{commit_view, IsSeatOf, IsIdle}
 use Rattle.lc_stage.specs.Staging.{newcomer}
 use Rattle.lc_stage.specs.declared.seats.CommitSeat.{CommitSeat}
-use Rattle.lc_stage.specs.declared.view.View.{View}
+use Rattle.lc_stage.specs.declared.stage_view.StageView.{StageView}
 use Rattle.lc_node.specs.declared.node.Node.{Node}
 use Rattle.lc_committer.specs.declared.committer.Committer.TheInside.{Inside}
 
 -- the node on which it commits, and what its seat knows: its records and its receipts
 pub record Committing (D : Type 0) : Type 0 where
   pub node : Node D
-  pub view : View
+  pub view : StageView
 
 -- what the seat knows, where it is there
-abbrev pub view_in : Option CommitSeat → View
+abbrev pub view_in : Option CommitSeat → StageView
 view_in None = newcomer 0
 view_in (Some seat) = commit_view seat
 

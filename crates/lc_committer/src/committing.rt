@@ -8,7 +8,7 @@ ghost use Rattle.lc_committer.specs.Kept.{KeepsReceipts};
 
 use crate::Committer;
 use crate::committer::take_out;
-use crate::open::Open;
+use crate::no_gate::NoGate;
 use lc_disk::Area;
 use lc_node::{Commit, Mode, NodeFault, Work};
 use std::sync::Wait;
@@ -42,7 +42,7 @@ impl<'a, D: Area + Drop> Committer<'a, D> {
         let seat = take_out(self.node, &mut self.seat);
         let (seat, done) = self
             .node
-            .transact_in_room(rt, rt.alloc(), seat, segments, work, mode, TRIES, &Open);
+            .transact_in_room(rt, rt.alloc(), seat, segments, work, mode, TRIES, &NoGate);
         self.seat = Some(seat);
         done
     }

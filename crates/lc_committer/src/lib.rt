@@ -5,7 +5,7 @@ mod change;
 mod committer;
 mod committing;
 mod confirming;
-mod open;
+mod no_gate;
 mod reading;
 mod settling;
 mod update;

@@ -23,15 +23,15 @@ use Rattle.lc_core.specs.Log.{Stands, area_of, is_idle}
 use Rattle.lc_core.specs.Made.{AreFound, IsFoundNode, IsFoundSegment, IsMadeUp}
 use Rattle.lc_core.specs.Pieces.{IsMadeNode, IsMadeSlot, is_here, left_by, standing_at}
 use Rattle.lc_core.specs.Places.{same_some}
-use Rattle.lc_core.specs.Records.{Kept, marks_of}
+use Rattle.lc_core.specs.Records.{KeptRecords, marks_of}
 use Rattle.lc_core.specs.Slots.{segment_to}
 use Rattle.lc_core.specs.declared.log.Log.{Log}
-use Rattle.lc_core.specs.declared.node.Node.{Node}
+use Rattle.lc_core.specs.declared.node_state.NodeState.{NodeState}
 use Rattle.lc_core.specs.declared.node_piece.NodePiece.{NodePiece}
 use Rattle.lc_core.specs.declared.pages.Pages.{Pages}
 use Rattle.lc_core.specs.declared.segment_piece.SegmentPiece.{SegmentPiece}
 use Rattle.lc_core.specs.declared.segment_pieces.SegmentPieces.{SegmentPieces}
-use Rattle.lc_core.specs.declared.slot.Slot.{Slot}
+use Rattle.lc_core.specs.declared.segment_copy.SegmentCopy.{SegmentCopy}
 use Rattle.lc_core.specs.declared.up.Up.{Up}
 
 -- where a token is, by the machine
@@ -46,7 +46,7 @@ place_is n (Left other) place here placed = absurd cc
 
 -- A slot
 
-slot_here : (f : Found) (n segment : ℕ) (slot : Slot) (piece : SegmentPiece) (token : Option Token) (its : IsFoundSegment f segment piece token) → is_here n piece.holder ≡ true
+slot_here : (f : Found) (n segment : ℕ) (slot : SegmentCopy) (piece : SegmentPiece) (token : Option Token) (its : IsFoundSegment f segment piece token) → is_here n piece.holder ≡ true
     → IsMadeSlot segment piece (Some its.its) slot → IsAdoptedSlot f n segment slot
 slot_here f n segment slot piece token its here made =
     let applied = its.here n (at_here n piece.holder (f.place segment) its.placed ∙ here) in
@@ -59,7 +59,7 @@ slot_here f n segment slot piece token its here made =
       parts = made.parts ∙ ap (fresh segment) (its.token_is.number ∙ sym applied);
     }
 
-slot_away : (f : Found) (n segment : ℕ) (slot : Slot) (piece : SegmentPiece) (token : Option Token) → IsFoundSegment f segment piece token → is_here n piece.holder ≡ false
+slot_away : (f : Found) (n segment : ℕ) (slot : SegmentCopy) (piece : SegmentPiece) (token : Option Token) → IsFoundSegment f segment piece token → is_here n piece.holder ≡ false
     → IsMadeSlot segment piece None slot → IsAdoptedSlot f n segment slot
 slot_away f n segment slot piece token its away made =
     let elsewhere = at_here n piece.holder (f.place segment) its.placed ∙ away in
@@ -73,7 +73,7 @@ slot_away f n segment slot piece token its away made =
       parts = made.parts ∙ ap (fresh segment) (sym applied);
     }
 
-slot_adopted : (f : Found) (n segment : ℕ) (slot : Slot) (piece : SegmentPiece) (token : Option Token) → IsFoundSegment f segment piece token → IsMadeSlot segment piece (standing_at n piece.holder token) slot → IsAdoptedSlot f n segment slot
+slot_adopted : (f : Found) (n segment : ℕ) (slot : SegmentCopy) (piece : SegmentPiece) (token : Option Token) → IsFoundSegment f segment piece token → IsMadeSlot segment piece (standing_at n piece.holder token) slot → IsAdoptedSlot f n segment slot
 slot_adopted f n segment slot piece token its made = elim (is_here n piece.holder) as (λ b. is_here n piece.holder ≡ b → IsMadeSlot segment piece (if b then token else None) slot → IsAdoptedSlot f n segment slot) [
   | true ↦ λ here new. slot_here f n segment slot piece token its here (subst (λ (s : Option Token). IsMadeSlot segment piece s slot) its.there new)
   | false ↦ λ away new. slot_away f n segment slot piece token its away new
@@ -104,7 +104,7 @@ module _ {D : Type 0} (a : Ghosts D) (f : Found) (contents : SegmentPieces) (tok
 
   -- A node
 
-  node_adopted : (n : ℕ) (piece : NodePiece D a) (node : Node D a) → length tokens ≡ f.geometry.segments → IsFoundNode a f n piece → IsMadeNode a f.geometry n segments tokens piece node → IsAdoptedNode a f n node
+  node_adopted : (n : ℕ) (piece : NodePiece D a) (node : NodeState D a) → length tokens ≡ f.geometry.segments → IsFoundNode a f n piece → IsMadeNode a f.geometry n segments tokens piece node → IsAdoptedNode a f n node
   node_adopted n piece node all its made = record {
     seats = made.seats;
     slots_count = made.count;
@@ -117,9 +117,9 @@ module _ {D : Type 0} (a : Ghosts D) (f : Found) (contents : SegmentPieces) (tok
     log = subst (λ (l : Log D a). Stands a l 0 (drop (f.dropped n) (take (f.stable n) (own_records f n))) []) (sym made.journal.log) (refl, refl, its.log);
     works = ap (is_idle a) made.journal.log;
     room = made.room;
-    before = ap (λ (k : Kept). k.before) made.journal.records ∙ its.before;
-    words = ap (λ (k : Kept). map (λ r. r.words) k.records) made.journal.records ∙ its.words;
-    marks = ap (λ (k : Kept). marks_of k.records) made.journal.records ∙ its.marks;
+    before = ap (λ (k : KeptRecords). k.before) made.journal.records ∙ its.before;
+    words = ap (λ (k : KeptRecords). map (λ r. r.words) k.records) made.journal.records ∙ its.words;
+    marks = ap (λ (k : KeptRecords). marks_of k.records) made.journal.records ∙ its.marks;
     dropped = made.journal.dropped ∙ its.before;
     trimmed = made.journal.trimmed ∙ its.before;
     taken = made.journal.taken ∙ its.stable;
@@ -129,7 +129,7 @@ module _ {D : Type 0} (a : Ghosts D) (f : Found) (contents : SegmentPieces) (tok
   }
 
   module _ (up : Up D a) (nodes_count : length pieces ≡ f.geometry.nodes) (tokens_count : length tokens ≡ f.geometry.segments) (made : IsMadeUp a f.geometry segments tokens pieces areas up) where
-    piece_of : (n : ℕ) (node : Node D a) → slice_get up.running.nodes.items n ≡ Some node → (piece : NodePiece D a) × (slice_get pieces n ≡ Some piece)
+    piece_of : (n : ℕ) (node : NodeState D a) → slice_get up.running.nodes.items n ≡ Some node → (piece : NodePiece D a) × (slice_get pieces n ≡ Some piece)
     piece_of n node at =
         let within = slice_get_within up.running.nodes.items n node at in
         let count = up.running.all_nodes in

@@ -6,7 +6,7 @@ use Rattle.std.proofs.lemmas.List.{length-map, length-replicate, take_all}
 use Rattle.std.proofs.lemmas.List.Elements.{All-nil, All-head, All-tail, All-filter}
 use Rattle.std.proofs.lemmas.Option.{slice_get_within}
 use Rattle.lc_disk.specs.declared.area.Area.{Ghosts}
-use Rattle.lc_page.specs.declared.entry.Entry.{Entry}
+use Rattle.lc_page.specs.declared.page_entry.PageEntry.{PageEntry}
 use Rattle.lc_record.specs.Content.{Content, segment_of}
 use Rattle.lc_record.specs.Geometry.{segment_len}
 use Rattle.lc_record.specs.Record.{spelling}
@@ -29,7 +29,7 @@ use Rattle.lc_core.specs.Coherent.{AreCoherent, entries_of as token_entries}
 use Rattle.lc_core.specs.Journal.{FitsLog}
 use Rattle.lc_core.specs.Log.{Stands, HasReset, is_failed}
 use Rattle.lc_core.specs.Numbers.{Numbers, token_number}
-use Rattle.lc_core.specs.Records.{Kept, marks_of}
+use Rattle.lc_core.specs.Records.{KeptRecords, marks_of}
 use Rattle.lc_core.specs.Running.{FitsRunning, FitsTravelling}
 use Rattle.lc_core.specs.Slots.{FitsToken}
 use Rattle.lc_core.specs.declared.log.Log.{Log}
@@ -47,12 +47,12 @@ use Rattle.lc_model.proofs.Numbers.{part-replicate}
 use Rattle.lc_model.proofs.Result.{shape-effects}
 use Rattle.lc_core.specs.Desk.{FitsDesk, FitsSeat}
 use Rattle.lc_core.specs.Here.{beside, number_at, number_in, the_images}
-use Rattle.lc_core.specs.Node.{FitsNode}
+use Rattle.lc_core.specs.NodeState.{FitsNode}
 use Rattle.lc_core.specs.Slots.{Awaits, Besides, FitsSlot, FitsSlots, besides_of, segment_to}
 use Rattle.lc_core.specs.declared.here.Here.{Here}
-use Rattle.lc_core.specs.declared.node.Node.{Node}
+use Rattle.lc_core.specs.declared.node_state.NodeState.{NodeState}
 use Rattle.lc_core.specs.Seat.{Seat, Free}
-use Rattle.lc_core.specs.declared.slot.Slot.{Slot}
+use Rattle.lc_core.specs.declared.segment_copy.SegmentCopy.{SegmentCopy}
 use Rattle.lc_core.proofs.Cohering.{entry_is, entries_count}
 use Rattle.lc_core.proofs.Rising.{get-replicate, idle_works, shown_is, slot_of}
 use Rattle.lc_rest.specs.Adopted.{transaction_of, history_of}
@@ -88,17 +88,17 @@ coherent f is = record {
     count = entries_count f.geometry x segment;
     few = (let few = f.geometry.few_pages in omega (arith, few));
     stable = λ page text known shows.
-        (let one = ap (λ (e : Entry). e.stable) (entry_is f.geometry x segment page known) in
+        (let one = ap (λ (e : PageEntry). e.stable) (entry_is f.geometry x segment page known) in
         let two = ap (λ (p : Page). p.sequence) (shown-now f segment page text shows) in
         omega (arith, one, two));
     within = λ page known.
-        (let one = ap (λ (e : Entry). e.stable) (entry_is f.geometry x segment page known) in
+        (let one = ap (λ (e : PageEntry). e.stable) (entry_is f.geometry x segment page known) in
         let two = is.pages_within segment page first last known in
         let three = number-is f segment in
         omega (arith, one, two, three));
     touched = subst (λ (rs : List Record). All (IsTouched f.geometry segment (token_number s x segment) (token_entries f.geometry x segment)) rs) (sym (all-are f is))
         (λ k r k_in within page known has.
-        (let one = ap (λ (e : Entry). e.touched) (entry_is f.geometry x segment page known) in
+        (let one = ap (λ (e : PageEntry). e.touched) (entry_is f.geometry x segment page known) in
         let two = is.touched k r k_in segment page known has in
         omega (arith, one, two)));
     cleaned = subst (λ (rs : List Record). All (IsCleanTo f.geometry x.disks segment (f.clean segment)) rs) (sym (all-are f is))
@@ -163,7 +163,7 @@ to-recursion : (rs : List Record) → All IsWhole rs → AllByRecursion IsWhole 
 to-recursion [] all = tt
 to-recursion (r ∷ rs) all = (All-head IsWhole r rs all, to-recursion rs (All-tail IsWhole r rs all))
 
-pub log-fits : {D : Type 0} (a : Ghosts D) (f : Found) (n : ℕ) (log : Log D a) (kept : Kept) (dropped trimmed taken acked : ℕ) → IsConsistent f → n < f.geometry.nodes
+pub log-fits : {D : Type 0} (a : Ghosts D) (f : Found) (n : ℕ) (log : Log D a) (kept : KeptRecords) (dropped trimmed taken acked : ℕ) → IsConsistent f → n < f.geometry.nodes
     → kept.before ≡ f.dropped n → map (λ r. r.words) kept.records ≡ map spelling (drop (f.dropped n) (own_records f n)) → marks_of kept.records ≡ map (λ (r : Record). true) (drop (f.dropped n) (own_records f n))
     → dropped ≡ f.dropped n → trimmed ≡ f.dropped n → taken ≡ f.stable n → acked ≡ f.stable n
     → Stands a log 0 (drop (f.dropped n) (take (f.stable n) (own_records f n))) [] → is_failed a log ≡ false → HasReset a log 0
@@ -207,11 +207,11 @@ none-unclosed : (g : Geometry) (rs : List Record) (n thread : ℕ) → list_any 
 none-unclosed g [] n thread = refl
 none-unclosed g (r ∷ rs) n thread = none-unclosed g rs n thread
 
-module _ {D : Type 0} (a : Ghosts D) (f : Found) (is : IsConsistent f) (n : ℕ) (known : n < f.geometry.nodes) (node : Node D a) (new : IsAdoptedNode a f n node) where
+module _ {D : Type 0} (a : Ghosts D) (f : Found) (is : IsConsistent f) (n : ℕ) (known : n < f.geometry.nodes) (node : NodeState D a) (new : IsAdoptedNode a f n node) where
   abbrev here : Here
   here = node.desk.here
 
-  slot_known : (k : ℕ) (slot : Slot) → slice_get here.slots.items k ≡ Some slot → k + 1 ≤ f.geometry.segments
+  slot_known : (k : ℕ) (slot : SegmentCopy) → slice_get here.slots.items k ≡ Some slot → k + 1 ≤ f.geometry.segments
   slot_known k slot at = (let count = new.slots_count in let within = slice_get_within here.slots.items k slot at in omega (arith, count, within))
 
   long : (segment : ℕ) → 1 ≤ segment → segment ≤ f.geometry.segments → length (segment_of segment (value f.base [] (machine_state f).history)) ≡ segment_len f.geometry
@@ -270,7 +270,7 @@ module _ {D : Type 0} (a : Ghosts D) (f : Found) (is : IsConsistent f) (n : ℕ)
     elsewhere = elsewhere;
   }
 
-  slot_fits : (k : ℕ) (slot : Slot) → slice_get here.slots.items k ≡ Some slot → FitsSlot (machine_setting f) n (k + 1) (beside slot) (machine_state f) (numbers_of f)
+  slot_fits : (k : ℕ) (slot : SegmentCopy) → slice_get here.slots.items k ≡ Some slot → FitsSlot (machine_setting f) n (k + 1) (beside slot) (machine_state f) (numbers_of f)
   slot_fits k slot at =
       let its = new.slots k slot at in
       let first : 1 ≤ k + 1 = omega arith in

@@ -8,7 +8,7 @@ use Rattle.lc_model.proofs.Keeps.{sound-first}
 use Rattle.lc_recover.specs.Reads.{AllMergeTo, AreHonest, HaveLengths, store_of}
 use Rattle.lc_recover.specs.Recovery.{Recovering, IsMerged}
 use Rattle.lc_core.specs.Anew.{StartsAnew}
-use Rattle.lc_core.specs.declared.phase.Phase.TheVariants.{Down}
+use Rattle.lc_core.specs.declared.world_phase.WorldPhase.TheVariants.{Down}
 use Rattle.lc_core.proofs.ImagesFit.{only_images}
 
 module _ {D : Type 0} (a : Ghosts D) where

@@ -26,7 +26,7 @@ use Rattle.lc_model.specs.declared.refusal.Refusal.TheVariants.{Unknown}
 use Rattle.lc_model.specs.declared.reply.Reply.TheVariants.{Ignored as IsIgnored, Refused}
 use Rattle.lc_core.specs.Delivers.{Brings, CopiesPart, HasNewPart}
 use Rattle.lc_core.specs.Here.{beside}
-use Rattle.lc_core.specs.Node.{FitsNode, GoesOn}
+use Rattle.lc_core.specs.NodeState.{FitsNode, GoesOn}
 use Rattle.lc_core.specs.Numbers.{Numbers, token_number}
 use Rattle.lc_core.specs.Places.{same_some}
 use Rattle.lc_core.specs.Published.{Finds, IsFound}
@@ -36,10 +36,10 @@ use Rattle.lc_core.specs.Settled.{deliver_answer, number_of}
 use Rattle.lc_core.specs.Slots.{FitsSlot}
 use Rattle.lc_core.specs.declared.delivering.Delivery.TheVariants.{Unknown as NotThere, Known, Next}
 use Rattle.lc_core.specs.declared.desk.Desk.{Desk}
-use Rattle.lc_core.specs.declared.node.Node.{Node}
+use Rattle.lc_core.specs.declared.node_state.NodeState.{NodeState}
 use Rattle.lc_core.specs.declared.publishing.Published.TheVariants.{Unknown as IsNot, Trimmed, Record as Published}
 use Rattle.lc_core.specs.declared.running.Running.{Running}
-use Rattle.lc_core.specs.declared.slot.Slot.{Slot}
+use Rattle.lc_core.specs.declared.segment_copy.SegmentCopy.{SegmentCopy}
 use Rattle.lc_core.proofs.Away.{stands_there}
 use Rattle.lc_core.proofs.Caught.{ignored_is}
 use Rattle.lc_core.proofs.Delivered.{acked_counted}
@@ -62,7 +62,7 @@ delivery_known g sender number segment to h =
     (ltb-true to g.nodes d.0, ltb-true sender g.nodes (and-both (is_node g sender) true d.1).0, leb-true 1 segment f.0, leb-true segment g.segments f.1)
 
 -- a slot knows what is applied or waits there, and where the token stands every closed record
-pub slot_knows : (m : Setting) (n k number : ℕ) (slot : Slot) (s : State) (x : Numbers) → FitsSlot m n (k + 1) (beside slot) s x → number ≤ token_number s x (k + 1)
+pub slot_knows : (m : Setting) (n k number : ℕ) (slot : SegmentCopy) (s : State) (x : Numbers) → FitsSlot m n (k + 1) (beside slot) s x → number ≤ token_number s x (k + 1)
     → (is_some slot.token.token || knows slot.parts number) ≡ (nat_le number (x.applied n (k + 1)) || is_member number (x.waiting n (k + 1)))
 slot_knows m n k number slot s x fits closed = by_token slot.token.token refl
   where
@@ -101,7 +101,7 @@ number_at segment (suc place) lock (first ∷ locks) at =
 
 -- of a record that the sender has acknowledged and still keeps, whose number of the segment a slot at the receiver knows or not
 module _ (m : Setting) (s : State) (x : Numbers) (sound : Sound m.geometry s) (sender number segment to : ℕ) (first : 1 ≤ segment) (r : Record) (found : IsFound m sender s x number (Published r))
-    (own : ℕ) (lock : number_in segment r.locks ≡ Some own) (slot : Slot) (fits : FitsSlot m to (segment - 1 + 1) (beside slot) s x) where
+    (own : ℕ) (lock : number_in segment r.locks ≡ Some own) (slot : SegmentCopy) (fits : FitsSlot m to (segment - 1 + 1) (beside slot) s x) where
   number_is : number_of segment (slice_get (records_of m s x.disks sender) (number - 1)) ≡ Some own
   number_is = ap (number_of segment) found.3 ∙ lock
 
@@ -143,7 +143,7 @@ may_answer Ignored = refl
 
 module _ {D : Type 0} (a : Ghosts D) where
   -- a node that receives a new part
-  pub delivers : (m : Setting) (n : ℕ) (s : State) (x : Numbers) (sender number segment : ℕ) (r : Record) (answer : Received) (old : Node D a) (new : Desk) → Sound m.geometry s
+  pub delivers : (m : Setting) (n : ℕ) (s : State) (x : Numbers) (sender number segment : ℕ) (r : Record) (answer : Received) (old : NodeState D a) (new : Desk) → Sound m.geometry s
       → FitsNode a m n old s x → HasNewPart m s x sender number segment n r → FollowsReceive segment r old.desk answer new
       → GoesOn a m n (Deliver sender number segment n) s x (reply_of answer) (record { desk = new; journal = old.journal; known = old.known })
   delivers m n s x sender number segment r answer old new sound h part follows =
@@ -180,16 +180,16 @@ module _ {D : Type 0} (a : Ghosts D) where
       }
 
   -- the node of a number, which has a slot for each segment
-  pub node_at : (w : Running D a) (n : ℕ) (node : Node D a) → n < w.geometry.nodes → node ≡ slice_index_or w.nodes.items n node → slice_get w.nodes.items n ≡ Some node
+  pub node_at : (w : Running D a) (n : ℕ) (node : NodeState D a) → n < w.geometry.nodes → node ≡ slice_index_or w.nodes.items n node → slice_get w.nodes.items n ≡ Some node
   node_at w n node within is =
       let below : n < w.nodes.len = omega (arith, w.all_nodes, within) in
       slice_get_read w.nodes.items w.nodes.len n node w.nodes.ok.0 below is
 
-  pub slot_within : (w : Running D a) (n segment : ℕ) (node : Node D a) → slice_get w.nodes.items n ≡ Some node → segment ≤ w.geometry.segments → segment ≤ vec_len node.desk.here.slots
+  pub slot_within : (w : Running D a) (n segment : ℕ) (node : NodeState D a) → slice_get w.nodes.items n ≡ Some node → segment ≤ w.geometry.segments → segment ≤ vec_len node.desk.here.slots
   slot_within w n segment node at within = let all = (w.whole n node at).slots in omega (arith, all, within)
 
   -- what the journal of the sender gives under the number
-  module _ (w : Running D a) (sender number segment to : ℕ) (from : Node D a) (at_sender : slice_get w.nodes.items sender ≡ Some from) where
+  module _ (w : Running D a) (sender number segment to : ℕ) (from : NodeState D a) (at_sender : slice_get w.nodes.items sender ≡ Some from) where
     pub finds_unknown : Finds a from.journal number IsNot → Brings a sender number segment to w NotThere
     finds_unknown finds m s x h = deliver_unknown m s x sender number segment to (finds m sender s x (h.each sender from at_sender).journal)
 
@@ -200,7 +200,7 @@ module _ {D : Type 0} (a : Ghosts D) where
       pub finds_unlocked : number_in segment r.locks ≡ None → Brings a sender number segment to w NotThere
       finds_unlocked none m s x h = unlocked_answer m s x sender number segment to r (finds m sender s x (h.each sender from at_sender).journal) none
 
-      module _ (own : ℕ) (lock : number_in segment r.locks ≡ Some own) (first : 1 ≤ segment) (node : Node D a) (at : slice_get w.nodes.items to ≡ Some node) (slot : Slot)
+      module _ (own : ℕ) (lock : number_in segment r.locks ≡ Some own) (first : 1 ≤ segment) (node : NodeState D a) (at : slice_get w.nodes.items to ≡ Some node) (slot : SegmentCopy)
           (at_segment : slice_get node.desk.here.slots.items (segment - 1) ≡ Some slot) where
         its_slot : (m : Setting) (s : State) (x : Numbers) → FitsRunning a m w s x → FitsSlot m to (segment - 1 + 1) (beside slot) s x
         its_slot m s x h = (h.each to node at).slots.each (segment - 1) (beside slot) (get-map beside node.desk.here.slots.items (segment - 1) slot at_segment)

@@ -21,7 +21,7 @@ use Rattle.lc_core.specs.Arrives.{Waits, Arrives}
 use Rattle.lc_core.specs.declared.desk.Desk.{Desk}
 use Rattle.lc_core.specs.declared.here.Here.{Here}
 use Rattle.lc_core.specs.Seat.{Seat}
-use Rattle.lc_core.specs.declared.slot.Slot.{Slot}
+use Rattle.lc_core.specs.declared.segment_copy.SegmentCopy.{SegmentCopy}
 use Rattle.lc_core.proofs.Left.{as_before, runs_stay}
 use Rattle.lc_core.proofs.Moved.{runs_moved, desk_moved, away-free}
 
@@ -40,7 +40,7 @@ same_came standing next token (Ok done) came err = ap (λ (p : Standing). p.segm
 same_came standing next token (Err fault) came err = ap (λ (p : Standing). p.segment) err
 
 -- no transaction has a segment whose token is elsewhere
-pub runs_came : (here : Here) (k : ℕ) (slot : Slot) (seats : List Seat) (next : Standing) (applied : ℕ) (token : Token) (result : Answer)
+pub runs_came : (here : Here) (k : ℕ) (slot : SegmentCopy) (seats : List Seat) (next : Standing) (applied : ℕ) (token : Token) (result : Answer)
     → slice_get here.slots.items k ≡ Some slot → slot.token.token ≡ None → ArriveAnswers slot.token next applied token result → AllRun here seats
     → AllRun (record here { slots = with_item here.slots k (record slot { token = next }) }) seats
 runs_came here k slot seats next applied token (Ok done) at empty a runs =
@@ -48,7 +48,7 @@ runs_came here k slot seats next applied token (Ok done) at empty a runs =
     (runs_moved here k slot at (Some token) seats runs (λ j tx on held. away-free here (suc k) j tx (ap number_at at ∙ ap number_in empty) on held))
 runs_came here k slot seats next applied token (Err fault) at empty a runs = runs_stay here k slot seats next at a.err runs
 
-module _ (old new : Desk) (token : Token) (first : 1 ≤ token.segment) (slot : Slot) (at : slice_get old.here.slots.items (token.segment - 1) ≡ Some slot) (empty : slot.token.token ≡ None)
+module _ (old new : Desk) (token : Token) (first : 1 ≤ token.segment) (slot : SegmentCopy) (at : slice_get old.here.slots.items (token.segment - 1) ≡ Some slot) (empty : slot.token.token ≡ None)
     (next : Standing) (result : Answer) (a : ArriveAnswers slot.token next slot.parts.applied token result)
     (here_is : new.here ≡ record old.here { slots = with_item old.here.slots (token.segment - 1) (record slot { token = next }) }) (seats_is : new.seats ≡ old.seats) where
   abbrev k : ℕ
@@ -95,5 +95,5 @@ module _ (old new : Desk) (token : Token) (first : 1 ≤ token.segment) (slot : 
     | inr reached ↦ (let same = a.done.1 reached in subst (λ (r : Answer). Arrives token slot old r new) (sym same) (came same reached))
   ]
 
-  pub arrives : (other : Slot) → slice_get old.here.slots.items (token.segment - 1) ≡ Some other → Arrives token other old result new
-  arrives other got = subst (λ (x : Slot). Arrives token x old result new) (same_some slot other (sym at ∙ got)) answered
+  pub arrives : (other : SegmentCopy) → slice_get old.here.slots.items (token.segment - 1) ≡ Some other → Arrives token other old result new
+  arrives other got = subst (λ (x : SegmentCopy). Arrives token x old result new) (same_some slot other (sym at ∙ got)) answered

@@ -29,8 +29,8 @@ use Rattle.lc_core.specs.Running.{FitsRunning, WantsBytes, WantsRange}
 use Rattle.lc_core.specs.Seat.{Open, holder_of}
 use Rattle.lc_core.specs.Stepping.{AsksMemory, Wants}
 use Rattle.lc_core.specs.World.{AsksIn, AsksWorld, FitsDown, FitsPhase}
-use Rattle.lc_core.specs.declared.phase.Phase.{Phase}
-use Rattle.lc_core.specs.declared.phase.Phase.TheVariants.{Down, Up, Taken}
+use Rattle.lc_core.specs.declared.world_phase.WorldPhase.{WorldPhase}
+use Rattle.lc_core.specs.declared.world_phase.WorldPhase.TheVariants.{Down, Up, Taken}
 use Rattle.lc_core.specs.declared.running.Running.{Running}
 use Rattle.lc_core.specs.declared.world.World.{World}
 use Rattle.lc_core.proofs.RangeRows.{all_reached, lock_is, size_is}
@@ -137,7 +137,7 @@ module _ {D : Type 0} (a : Ghosts D) where
   recovers_down : (m : Setting) (s : State) → is_up s.phase ≡ false → common_refusal m.geometry s RecoverStep ≡ None
   recovers_down m s down = rw down refl
 
-  asks_in : (phase : Phase D a) (event : Event) (m : Setting) (s : State) (x : Numbers) → AsksIn a phase event → FitsPhase a m phase s x → EventAsks m s x event
+  asks_in : (phase : WorldPhase D a) (event : Event) (m : Setting) (s : State) (x : Numbers) → AsksIn a phase event → FitsPhase a m phase s x → EventAsks m s x event
   asks_in (Down r) RecoverStep m s x asks fits = (let down = down_fits r m s x fits in (recovers_down m s down, (down, room_taken r m s x fits asks)))
   asks_in (Down r) event m s x asks fits = absurd asks
   asks_in (Up up) event m s x asks fits = (sym (asks.0 m s x fits.0.running), grows up.running event m s x fits.0.running asks.1)

@@ -16,7 +16,7 @@ use Rattle.lc_core.specs.Numbers.{Numbers}
 use Rattle.lc_core.specs.Places.{same_some}
 use Rattle.lc_core.specs.Refuses.{Refuses, ActsRunning}
 use Rattle.lc_core.specs.Running.{FitsRunning}
-use Rattle.lc_core.specs.declared.node.Node.{Node}
+use Rattle.lc_core.specs.declared.node_state.NodeState.{NodeState}
 use Rattle.lc_core.specs.declared.running.Running.{Running}
 
 -- the node that acts is one of the geometry
@@ -39,16 +39,16 @@ acts_at halted None n acts = absurd cc
 acts_at halted (Some its) n acts = ap halted (sym (same_some n its.node acts))
 
 module _ {D : Type 0} (a : Ghosts D) where
-  running_at : (nodes : List (Node D a)) (o : Option Named) (n : ℕ) (node : Node D a) → Some n ≡ option_map (λ its. its.node) o → slice_get nodes n ≡ Some node
+  running_at : (nodes : List (NodeState D a)) (o : Option Named) (n : ℕ) (node : NodeState D a) → Some n ≡ option_map (λ its. its.node) o → slice_get nodes n ≡ Some node
       → is_failed a node.journal.log ≡ false → ActsRunning a o nodes
   running_at nodes None n node acts at goes = absurd cc
   running_at nodes (Some its) n node acts at goes = λ other got.
       let same : slice_get nodes its.node ≡ Some node = ap (slice_get nodes) (sym (same_some n its.node acts)) ∙ at in
-      ap (λ (w : Node D a). is_failed a w.journal.log) (same_some other node (sym got ∙ same)) ∙ goes
+      ap (λ (w : NodeState D a). is_failed a w.journal.log) (same_some other node (sym got ∙ same)) ∙ goes
 
   -- the node that acts, where all that the event names is known
   module _ (w : Running D a) (event : Event) (known : is_known w.geometry event ≡ true) (n : ℕ) (acts : Some n ≡ option_map (λ its. its.node) (named event))
-      (node : Node D a) (read : node ≡ get_or w.nodes.items n node) where
+      (node : NodeState D a) (read : node ≡ get_or w.nodes.items n node) where
     pub stands : slice_get w.nodes.items n ≡ Some node
     stands =
         let within : n < w.nodes.len = omega (arith, acts_within w.geometry (named event) n acts known, w.all_nodes) in

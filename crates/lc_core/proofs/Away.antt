@@ -24,27 +24,27 @@ use Rattle.lc_core.specs.Seats.{Runs, AllRun, AreShort}
 use Rattle.lc_core.specs.Slots.{AreInPlace, Besides, besides_of}
 use Rattle.lc_core.specs.declared.desk.Desk.{Desk}
 use Rattle.lc_core.specs.declared.here.Here.{Here}
-use Rattle.lc_core.specs.declared.slot.Slot.{Slot}
+use Rattle.lc_core.specs.declared.segment_copy.SegmentCopy.{SegmentCopy}
 use Rattle.lc_core.proofs.Dropping.{runs_same, desk_seen, seat_beside}
 use Rattle.lc_core.proofs.Left.{same_items}
 use Rattle.lc_core.proofs.Seating.{set_same}
 use Rattle.lc_core.proofs.Shortness.{short_same}
 
 -- another slot in the place
-abbrev pub with_slot : Here → ℕ → Slot → Here
+abbrev pub with_slot : Here → ℕ → SegmentCopy → Here
 with_slot here k next = record here { slots = with_item here.slots k next }
 
 -- the slot of a segment
-pub slot_at : (here : Here) (segment : ℕ) (slot : Slot) → 1 ≤ segment → segment ≤ vec_len here.slots → slot ≡ slice_index_or here.slots.items (segment - 1) slot → slice_get here.slots.items (segment - 1) ≡ Some slot
+pub slot_at : (here : Here) (segment : ℕ) (slot : SegmentCopy) → 1 ≤ segment → segment ≤ vec_len here.slots → slot ≡ slice_index_or here.slots.items (segment - 1) slot → slice_get here.slots.items (segment - 1) ≡ Some slot
 slot_at here segment slot first within value = slice_get_read here.slots.items here.slots.len (segment - 1) slot here.slots.ok.0 (omega (arith, first, within)) value
 
 -- it stands in its place
-pub stands_there : (here : Here) (segment : ℕ) (slot : Slot) → 1 ≤ segment → slice_get here.slots.items (segment - 1) ≡ Some slot → AreInPlace (besides_of here) → (slot.parts.segment ≡ segment) × (slot.parts.due ≡ [])
+pub stands_there : (here : Here) (segment : ℕ) (slot : SegmentCopy) → 1 ≤ segment → slice_get here.slots.items (segment - 1) ≡ Some slot → AreInPlace (besides_of here) → (slot.parts.segment ≡ segment) × (slot.parts.due ≡ [])
 stands_there here segment slot first at placed =
     let its = placed (segment - 1) (beside slot) (get-map beside here.slots.items (segment - 1) slot at) in (omega (arith, its.1, first), its.2)
 
 -- and its image has no more bytes than a record can name
-pub short_at : (here : Here) (k : ℕ) (slot : Slot) → slice_get here.slots.items k ≡ Some slot → AreShort here → length slot.image.bytes.items ≤ 262144
+pub short_at : (here : Here) (k : ℕ) (slot : SegmentCopy) → slice_get here.slots.items k ≡ Some slot → AreShort here → length slot.image.bytes.items ≤ 262144
 short_at here k slot at short =
     let was : length (bytes_of the_images here (suc k)) ≤ 262144 = short (suc k) in
     let own : length (bytes_of the_images here (suc k)) ≡ length slot.image.bytes.items = ap (λ o. length (image_at here.spare o).bytes.items) at in
@@ -52,12 +52,12 @@ short_at here k slot at short =
 
 -- Where the slot is as it was
 
-pub runs_kept : (here : Here) (k : ℕ) (slot next : Slot) (seats : List Seat) → slice_get here.slots.items k ≡ Some slot → next ≡ slot → AllRun here seats → AllRun (with_slot here k next) seats
+pub runs_kept : (here : Here) (k : ℕ) (slot next : SegmentCopy) (seats : List Seat) → slice_get here.slots.items k ≡ Some slot → next ≡ slot → AllRun here seats → AllRun (with_slot here k next) seats
 runs_kept here k slot next seats at same runs =
     runs_same here (with_slot here k next) seats runs
     (same_items here (with_slot here k next) (ap (slice_set here.slots.items k) same ∙ set_same here.slots.items k slot at) refl)
 
-pub all_kept : (old new : Desk) (k : ℕ) (slot next : Slot) → slice_get old.here.slots.items k ≡ Some slot → new.here ≡ with_slot old.here k next → new.seats ≡ old.seats → next ≡ slot → IsAsBefore old new
+pub all_kept : (old new : Desk) (k : ℕ) (slot next : SegmentCopy) → slice_get old.here.slots.items k ≡ Some slot → new.here ≡ with_slot old.here k next → new.seats ≡ old.seats → next ≡ slot → IsAsBefore old new
 all_kept old new k slot next at here_is seats_is same =
     let slots : new.here.slots.items ≡ old.here.slots.items = ap (λ (h : Here). h.slots.items) here_is ∙ ap (slice_set old.here.slots.items k) same ∙ set_same old.here.slots.items k slot at in
     let spare : new.here.spare ≡ old.here.spare = ap (λ (h : Here). h.spare) here_is in
@@ -68,15 +68,15 @@ all_kept old new k slot next at here_is seats_is same =
       fits = λ m node s h. rw seats_is (desk_seen m node old.here new.here old.seats.items s old.runs (same_items old.here new.here slots spare) h);
     }
 
-pub in_place_kept : (here : Here) (k : ℕ) (slot next : Slot) → slice_get here.slots.items k ≡ Some slot → next ≡ slot → AreInPlace (besides_of here) → AreInPlace (besides_of (with_slot here k next))
+pub in_place_kept : (here : Here) (k : ℕ) (slot next : SegmentCopy) → slice_get here.slots.items k ≡ Some slot → next ≡ slot → AreInPlace (besides_of here) → AreInPlace (besides_of (with_slot here k next))
 in_place_kept here k slot next at same = subst (λ items. AreInPlace (map beside items)) (sym (ap (slice_set here.slots.items k) same ∙ set_same here.slots.items k slot at))
 
-pub short_stays : (here : Here) (k : ℕ) (slot next : Slot) → slice_get here.slots.items k ≡ Some slot → next ≡ slot → AreShort here → AreShort (with_slot here k next)
+pub short_stays : (here : Here) (k : ℕ) (slot next : SegmentCopy) → slice_get here.slots.items k ≡ Some slot → next ≡ slot → AreShort here → AreShort (with_slot here k next)
 short_stays here k slot next at same = short_same here (with_slot here k next) (same_items here (with_slot here k next) (ap (slice_set here.slots.items k) same ∙ set_same here.slots.items k slot at) refl)
 
 -- Where it has changed
 
-module _ (here : Here) (k : ℕ) (slot next : Slot) (at : slice_get here.slots.items k ≡ Some slot) (same : next.token ≡ slot.token) where
+module _ (here : Here) (k : ℕ) (slot next : SegmentCopy) (at : slice_get here.slots.items k ≡ Some slot) (same : next.token ≡ slot.token) where
   abbrev there : Here
   there = with_slot here k next
 

@@ -16,18 +16,18 @@ use Rattle.lc_model.specs.Sound.{holders}
 use Rattle.lc_model.specs.State.{At, Setting, State}
 use Rattle.lc_core.specs.Due.{is_blocked_then, number_then}
 use Rattle.lc_core.specs.Here.{beside, number_at, number_in, the_images}
-use Rattle.lc_core.specs.Node.{FitsNode}
+use Rattle.lc_core.specs.NodeState.{FitsNode}
 use Rattle.lc_core.specs.Numbers.{Numbers, sets_on, stable}
 use Rattle.lc_core.specs.Pages.{IsPageAt}
 use Rattle.lc_core.specs.Truncating.{HasOpenOn, IsBlocked, newer_at, newer_in, newer_of, under_way_at, under_way_in, under_way_of}
 use Rattle.lc_core.specs.Uncommitted.{HasSeatOn}
 use Rattle.lc_core.specs.World.{FitsUp}
-use Rattle.lc_core.specs.declared.node.Node.{Node}
+use Rattle.lc_core.specs.declared.node_state.NodeState.{NodeState}
 use Rattle.lc_core.specs.declared.page_state.PageState.{PageState}
 use Rattle.lc_core.specs.declared.page_state.PageState.TheVariants.{AtRest, UnderWay, Failed}
 use Rattle.lc_core.specs.declared.pages.Pages.{Pages}
-use Rattle.lc_core.specs.declared.phase.Phase.TheVariants.{Up}
-use Rattle.lc_core.specs.declared.slot.Slot.{Slot}
+use Rattle.lc_core.specs.declared.world_phase.WorldPhase.TheVariants.{Up}
+use Rattle.lc_core.specs.declared.segment_copy.SegmentCopy.{SegmentCopy}
 use Rattle.lc_core.specs.declared.up.Up.{Up as Rising}
 use Rattle.lc_core.proofs.DuePages.{not_outside, some_calls}
 use Rattle.lc_core.proofs.OnPages.{any_found, holder_seat, uncommitted_is}
@@ -88,7 +88,7 @@ module _ {D : Type 0} (a : Ghosts D) where
     not_here : (P : Type 0) → (P → ⊥) → is_at node (s.place (k + 1)) ≡ false → Same P
     not_here P none away = (λ p. absurd (none p), λ is. absurd (true≢false (sym (and-both _ _ is).0 ∙ away)))
 
-    token_same : (its : Node D a) (slot : Slot) (token : Token) → FitsNode a m node its s x → slice_get its.desk.here.slots.items k ≡ Some slot → slot.token.token ≡ Some token
+    token_same : (its : NodeState D a) (slot : SegmentCopy) (token : Token) → FitsNode a m node its s x → slice_get its.desk.here.slots.items k ≡ Some slot → slot.token.token ≡ Some token
         → Same ((newer_of page under_way (Some token) ≡ true) × HasSeatOn (k + 1) page its.desk.seats.items)
     token_same its slot token one at stands =
         let number_there_is : the_images.number_of its.desk.here (k + 1) ≡ number_in slot.token.token = ap (the_images.number_of its.desk.here) next ∙ ap number_at at in
@@ -111,12 +111,12 @@ module _ {D : Type 0} (a : Ghosts D) where
               ),
         )
       where
-        seat_of : (its : Node D a) → FitsNode a m node its s x → s.place (k + 1) ≡ At node → held ≡ true → HasSeatOn (k + 1) page its.desk.seats.items
+        seat_of : (its : NodeState D a) → FitsNode a m node its s x → s.place (k + 1) ≡ At node → held ≡ true → HasSeatOn (k + 1) page its.desk.seats.items
         seat_of its one place is =
             let found = any_found (sets_on (k + 1) page) (holders s) is in
             holder_seat m node its.desk.here its.desk.seats.items s fits.running.sound one.desk (k + 1) page found.0 place found.1
 
-    slot_same : (its : Node D a) (slot : Slot) → FitsNode a m node its s x → slice_get its.desk.here.slots.items k ≡ Some slot
+    slot_same : (its : NodeState D a) (slot : SegmentCopy) → FitsNode a m node its s x → slice_get its.desk.here.slots.items k ≡ Some slot
         → Same ((newer_of page under_way slot.token.token ≡ true) × HasSeatOn (k + 1) page its.desk.seats.items)
     slot_same its slot one at = elim slot.token.token as (λ (o : Option Token). slot.token.token ≡ o → Same ((newer_of page under_way o ≡ true) × HasSeatOn (k + 1) page its.desk.seats.items)) [
       | None ↦ λ none.
@@ -125,22 +125,22 @@ module _ {D : Type 0} (a : Ghosts D) where
       | Some token ↦ λ stands. token_same its slot token one at stands
     ] refl
 
-    node_same : (its : Node D a) → FitsNode a m node its s x
+    node_same : (its : NodeState D a) → FitsNode a m node its s x
         → Same ((newer_in page under_way (slice_get its.desk.here.slots.items k) ≡ true) × HasSeatOn (k + 1) page its.desk.seats.items)
     node_same its one = elim (slice_get_cases its.desk.here.slots.items k).1 [
       | inl some ↦
-          subst (λ (o : Option Slot). Same ((newer_in page under_way o ≡ true) × HasSeatOn (k + 1) page its.desk.seats.items)) (sym some.2) (slot_same its some.0 one some.2)
+          subst (λ (o : Option SegmentCopy). Same ((newer_in page under_way o ≡ true) × HasSeatOn (k + 1) page its.desk.seats.items)) (sym some.2) (slot_same its some.0 one some.2)
       | inr past ↦ absurd (omega (arith, past.0, inside, one.slots.count, length-map its.desk.here.slots.items beside))
     ]
 
     up_same : Same ((newer_at (k + 1) page under_way (slice_get up.running.nodes.items node) ≡ true) × HasOpenOn (k + 1) page (slice_get up.running.nodes.items node))
     up_same = elim (slice_get_cases up.running.nodes.items node).1 [
       | inl some ↦
-          subst (λ (o : Option (Node D a)). Same ((newer_at (k + 1) page under_way o ≡ true) × HasOpenOn (k + 1) page o)) (sym some.2)
+          subst (λ (o : Option (NodeState D a)). Same ((newer_at (k + 1) page under_way o ≡ true) × HasOpenOn (k + 1) page o)) (sym some.2)
           (subst (λ (i : ℕ). Same ((newer_in page under_way (slice_get some.0.desk.here.slots.items i) ≡ true) × HasSeatOn (k + 1) page some.0.desk.seats.items)) (sym back)
           (node_same some.0 (fits.running.each node some.0 some.2)))
       | inr past ↦
-          subst (λ (o : Option (Node D a)). Same ((newer_at (k + 1) page under_way o ≡ true) × HasOpenOn (k + 1) page o)) (sym past.1)
+          subst (λ (o : Option (NodeState D a)). Same ((newer_at (k + 1) page under_way o ≡ true) × HasOpenOn (k + 1) page o)) (sym past.1)
           (not_here _ (λ has. absurd (true≢false (sym has.0)))
           (not_outside m.geometry node (s.place (k + 1)) (fits.running.sound.places_known (k + 1)) (omega (arith, past.0, up.running.all_nodes, ap (λ (g : Geometry). g.nodes) fits.running.geometry_is))))
     ]

@@ -11,13 +11,13 @@ use Rattle.lc_model.specs.declared.event.Event.{Event}
 use Rattle.lc_model.specs.declared.reply.Reply.{Reply}
 use Rattle.lc_core.specs.Beside.{BesideLogs}
 use Rattle.lc_core.specs.Follows.{FitsJournal, SameButLog}
-use Rattle.lc_core.specs.Node.{FitsNode, GoesOn}
+use Rattle.lc_core.specs.NodeState.{FitsNode, GoesOn}
 use Rattle.lc_core.specs.Numbers.{Numbers}
 use Rattle.lc_core.specs.Settled.{Settled}
 use Rattle.lc_core.specs.Slots.{besides_of}
 use Rattle.lc_core.specs.Turns.{Turns, call_made, called, opened_with}
 use Rattle.lc_core.specs.declared.journal.Journal.{Journal}
-use Rattle.lc_core.specs.declared.node.Node.{Node}
+use Rattle.lc_core.specs.declared.node_state.NodeState.{NodeState}
 use Rattle.lc_core.proofs.Going.{desk_logged}
 use Rattle.lc_core.proofs.Others.{beside_logged}
 use Rattle.lc_core.proofs.Slotted.{Stays, aside_stays, slots_stay, stays_where}
@@ -119,7 +119,7 @@ module _ (m : Setting) (s : State) (segment page : ℕ) where
 -- so the node goes on, with its log or with one that is given up
 unfoldable pub by_calls : {D : Type 0} (a : Ghosts D) (m : Setting) (n : ℕ) (event : Event) (s : State) (x : Numbers) (reply : Reply) (after : State) (y : Numbers)
     → SameButLog n s after → SameBesideCalls x y → Row m s event reply after → Settled m s x event reply → Turns m s x event reply y
-    → (old : Node D a) (new : Journal D a) → FitsNode a m n old s x → new.group.room ≡ old.journal.group.room → new.round ≡ old.journal.round → FitsJournal a m n new after x
+    → (old : NodeState D a) (new : Journal D a) → FitsNode a m n old s x → new.group.room ≡ old.journal.group.room → new.round ≡ old.journal.round → FitsJournal a m n new after x
     → GoesOn a m n event s x reply (record { desk = old.desk; journal = new; known = old.known })
 by_calls a m n event s x reply after y same only row settled turns old new h room round journal =
     let stays : Stays m s x after y =

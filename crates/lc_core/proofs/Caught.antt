@@ -32,7 +32,7 @@ use Rattle.lc_core.specs.Slots.{Awaits, Besides, FitsSlot, FitsSlots, besides_of
 use Rattle.lc_core.specs.Turns.{applied_to, held_back, put_number}
 use Rattle.lc_core.specs.declared.desk.Desk.{Desk}
 use Rattle.lc_core.specs.declared.here.Here.{Here}
-use Rattle.lc_core.specs.declared.slot.Slot.{Slot}
+use Rattle.lc_core.specs.declared.segment_copy.SegmentCopy.{SegmentCopy}
 use Rattle.lc_core.proofs.Away.{with_slot, desk_away}
 use Rattle.lc_core.proofs.Dropping.{desk_seen}
 use Rattle.lc_core.proofs.Gained.{gained, awaits_still, slots_gained, other_segment}
@@ -54,7 +54,7 @@ new_is x n segment number new =
 
 -- A part comes to a slot whose token is elsewhere
 
-module _ (m : Setting) (n k : ℕ) (slot next : Slot) (middle : Backlog) (away : slot.token.token ≡ None) (none_due : slot.parts.due ≡ [])
+module _ (m : Setting) (n k : ℕ) (slot next : SegmentCopy) (middle : Backlog) (away : slot.token.token ≡ None) (none_due : slot.parts.due ≡ [])
     (caught : CatchesUp (record slot { parts = middle }) next) (s : State) (x : Numbers) (sound : Sound m.geometry s) (fits : FitsSlot m n (k + 1) (beside slot) s x)
     (whole : Record) (part : Part) (part_is : part_of (k + 1) whole ≡ Some part) (place : ℕ) (found : slice_get (all_of m s x.disks) place ≡ Some whole)
     (closed : part.seq ≤ token_number s x (k + 1)) where
@@ -218,7 +218,7 @@ some_of : {A : Type 0} (o : Option A) → IsSome o → (x : A) × (o ≡ Some x)
 some_of None some = absurd cc
 some_of (Some x) some = (x, refl)
 
-module _ (old : Desk) (segment : ℕ) (first : 1 ≤ segment) (slot : Slot) (at : slice_get old.here.slots.items (segment - 1) ≡ Some slot) (whole : Record) where
+module _ (old : Desk) (segment : ℕ) (first : 1 ≤ segment) (slot : SegmentCopy) (at : slice_get old.here.slots.items (segment - 1) ≡ Some slot) (whole : Record) where
   abbrev k : ℕ
   k = segment - 1
 
@@ -249,7 +249,7 @@ module _ (old : Desk) (segment : ℕ) (first : 1 ≤ segment) (slot : Slot) (at 
         subst (λ items. FitsSlots m node (map beside items) s x) (sym same) slots,
       )
 
-  follows_away : (next : Slot) (middle : Backlog) (part : Part) (answer : Received)
+  follows_away : (next : SegmentCopy) (middle : Backlog) (part : Part) (answer : Received)
       → slot.token.token ≡ None → slot.parts.due ≡ [] → CatchesUp (record slot { parts = middle }) next → part_of (k + 1) whole ≡ Some part → Receives part slot.parts answer middle
       → Comes (k + 1) whole old answer (with_slot old.here k next)
   follows_away next middle part answer away none_due caught part_is receives m node s x place number sound desk slots found number_is closed =
@@ -264,7 +264,7 @@ module _ (old : Desk) (segment : ℕ) (first : 1 ≤ segment) (slot : Slot) (at 
       )
 
   -- elsewhere its part is put on the image, or kept
-  pub comes_away : (next : Slot) (middle : Backlog) (answer : Received) → slot.token.token ≡ None → slot.parts.due ≡ [] → slot.parts.segment ≡ segment → CatchesUp (record slot { parts = middle }) next
+  pub comes_away : (next : SegmentCopy) (middle : Backlog) (answer : Received) → slot.token.token ≡ None → slot.parts.due ≡ [] → slot.parts.segment ≡ segment → CatchesUp (record slot { parts = middle }) next
       → IsSome (part_of segment whole) → ForSome (part_of slot.parts.segment whole) (λ part. Receives part slot.parts answer middle)
       → Comes segment whole old answer (with_slot old.here k next)
   comes_away next middle answer away none_due segment_is caught some receives =
@@ -276,5 +276,5 @@ module _ (old : Desk) (segment : ℕ) (first : 1 ≤ segment) (slot : Slot) (at 
   pub is_new : slot.token.token ≡ None → slot.parts.segment ≡ segment → ForSome (part_of slot.parts.segment whole) (λ part. is_known slot.parts part.seq ≡ true → ⊥)
       → ForSome (slice_get old.here.slots.items k) (λ other. IsNew segment whole other)
   is_new away segment_is unknown_is other got =
-      subst (λ (o : Slot). IsNew segment whole o) (same_some slot other (sym at ∙ got))
+      subst (λ (o : SegmentCopy). IsNew segment whole o) (same_some slot other (sym at ∙ got))
       (away, λ part is. false_from_ne_true (is_known slot.parts part.seq) (unknown_is part (ap (λ n. part_of n whole) segment_is ∙ is)))

@@ -4,7 +4,7 @@ use Rattle.std.specs.Prelude.{not, is_some, max, option_map, IsTrue, if◌then�
 use Rattle.std.proofs.Math.Nat.{le-max_left, le-max_right, le_refl}
 use Rattle.std.proofs.lemmas.Bool.{false_from_ne_true}
 use Rattle.std.proofs.lemmas.List.Elements.{All-cons, All-head, All-tail, All-map, All-filter}
-use Rattle.lc_page.specs.declared.entry.Entry.{Entry}
+use Rattle.lc_page.specs.declared.page_entry.PageEntry.{PageEntry}
 use Rattle.lc_page.specs.PageVector.{entry_at, no_entry}
 use Rattle.lc_record.specs.Content.{Content, segment_of}
 use Rattle.lc_record.specs.Marks.{counting}
@@ -126,7 +126,7 @@ module _ (g : Geometry) (n i segment page : ℕ) (t : Transaction) (set : sets s
 -- Entries
 
 -- what holds of the entries page by page, and where there is none
-at_each : (R : Entry → Entry → Type 0) (f h : ℕ → Entry) → R no_entry no_entry → ((page : ℕ) → R (f page) (h page)) → (pages : List ℕ) (page : ℕ) → R (entry_at (map f pages) page) (entry_at (map h pages) page)
+at_each : (R : PageEntry → PageEntry → Type 0) (f h : ℕ → PageEntry) → R no_entry no_entry → ((page : ℕ) → R (f page) (h page)) → (pages : List ℕ) (page : ℕ) → R (entry_at (map f pages) page) (entry_at (map h pages) page)
 at_each R f h none each [] zero = none
 at_each R f h none each [] (suc page) = none
 at_each R f h none each (first ∷ pages) zero = each first
@@ -174,7 +174,7 @@ module _ (m : Setting) (n i : ℕ) (s : State) (x : Numbers) (t : Transaction) (
       (λ page. record no_entry { touched = y.touched segment page; stable = stable x segment page }) (refl, le_refl 0) (λ page. (refl, grows page)) (counting 0 m.geometry.pages))
       (λ k r k_in number page known has.
       let mark = its_from m.geometry n i segment page t set x.disks.numbers (base m s) s.history (history-well m.geometry s sound) sound.earlier_closed found k r k_in number has in
-      let is = ap (λ (e : Entry). e.touched) (entry_is m.geometry y segment page known) in
+      let is = ap (λ (e : PageEntry). e.touched) (entry_is m.geometry y segment page known) in
       let now : y.touched segment page ≡ max (x.touched segment page) (token_number s x segment + 1) = ap (λ b. if b then max (x.touched segment page) (token_number s x segment + 1) else x.touched segment page) mark in
       let least = le-max_right (x.touched segment page) (token_number s x segment + 1) in
       omega (arith, is, now, least))
@@ -194,10 +194,10 @@ module _ (m : Setting) (n i : ℕ) (s : State) (x : Numbers) (t : Transaction) (
       (λ page known.
       let old = entry_is m.geometry x segment page known in
       let new = entry_is m.geometry y segment page known in (
-        ap (λ (e : Entry). e.stable) new ∙ sym (ap (λ (e : Entry). e.stable) old),
-        ap (λ (e : Entry). e.touched) new
+        ap (λ (e : PageEntry). e.stable) new ∙ sym (ap (λ (e : PageEntry). e.stable) old),
+        ap (λ (e : PageEntry). e.touched) new
             ∙ ap (λ b. if b then max (x.touched segment page) (token_number s x segment + 1) else x.touched segment page) (unset_on segment page t unset)
-            ∙ sym (ap (λ (e : Entry). e.touched) old),
+            ∙ sym (ap (λ (e : PageEntry). e.touched) old),
       ))
       fits)
 

@@ -15,13 +15,13 @@ use Rattle.lc_model.proofs.Rows.{close-done, close-no_turn}
 use Rattle.lc_core.specs.Counts.{CountsSeat}
 use Rattle.lc_core.specs.Here.{the_images}
 use Rattle.lc_core.specs.Logging.{Shuts}
-use Rattle.lc_core.specs.Node.{FitsNode, GoesOn}
+use Rattle.lc_core.specs.NodeState.{FitsNode, GoesOn}
 use Rattle.lc_core.specs.Numbers.{Numbers}
 use Rattle.lc_core.specs.Reserves.{Closes}
 use Rattle.lc_core.specs.Turns.{closed_with, with_record}
 use Rattle.lc_core.specs.declared.desk.Desk.{Desk}
 use Rattle.lc_core.specs.declared.journal.Journal.{Journal}
-use Rattle.lc_core.specs.declared.node.Node.{Node}
+use Rattle.lc_core.specs.declared.node_state.NodeState.{NodeState}
 use Rattle.lc_core.specs.Seat.{Seat, Reserved}
 use Rattle.lc_core.proofs.Closes.{not_unclosed}
 use Rattle.lc_core.proofs.Counted.{aside_closed, set_at_desk, slots_counted, unspent_of}
@@ -46,7 +46,7 @@ entry_found : (node thread : ℕ) (history : History) (t : Transaction) → find
 entry_found node thread [] t is = absurd cc
 entry_found node thread (e ∷ es) t is = entry_first node thread es t (entry_found node thread es t) e.closed e.transaction is
 
-module _ {D : Type 0} (a : Ghosts D) (m : Setting) (n thread : ℕ) (s : State) (x : Numbers) (sound : Sound m.geometry s) (old : Node D a) (h : FitsNode a m n old s x) where
+module _ {D : Type 0} (a : Ghosts D) (m : Setting) (n thread : ℕ) (s : State) (x : Numbers) (sound : Sound m.geometry s) (old : NodeState D a) (h : FitsNode a m n old s x) where
   -- without a reservation nothing changes
   pub none_closes : (seat : Seat) → slice_get old.desk.seats.items thread ≡ Some seat → (new : Desk) → CountsSeat thread old.desk None new
       → GoesOn a m n (Close n thread) s x (Refused OutOfTurn) (record { desk = new; journal = old.journal; known = old.known })

@@ -5,7 +5,7 @@ use Rattle.std.proofs.lemmas.List.Elements.{All-nil}
 use Rattle.std.proofs.lemmas.List.{length-map}
 use Rattle.std.proofs.lemmas.Option.{get_or_from_slice_get}
 use Rattle.std.proofs.Math.Nat.{le_refl}
-use Rattle.lc_page.specs.declared.entry.Entry.{Entry}
+use Rattle.lc_page.specs.declared.page_entry.PageEntry.{PageEntry}
 use Rattle.lc_page.specs.PageVector.{entry_at, no_entry}
 use Rattle.lc_page.specs.declared.page_text.PageText.{PageText}
 use Rattle.lc_record.specs.Marks.{counting}
@@ -27,7 +27,7 @@ use Rattle.lc_core.specs.Numbers.{Numbers, recovered_numbers, stable, token_numb
 -- Tokens
 
 -- the same transactions, over the same content
-pub token_moved : (m : Setting) (s after : State) (d : Disks) (segment seq clean : ℕ) (pages : List Entry) → after.earlier ≡ s.earlier → transactions after.history ≡ transactions s.history
+pub token_moved : (m : Setting) (s after : State) (d : Disks) (segment seq clean : ℕ) (pages : List PageEntry) → after.earlier ≡ s.earlier → transactions after.history ≡ transactions s.history
     → TokenFits m s d segment seq clean pages → TokenFits m after d segment seq clean pages
 token_moved m s after d segment seq clean pages earlier history h =
     let all_are : all_of m s d ≡ all_of m after d =
@@ -43,7 +43,7 @@ token_moved m s after d segment seq clean pages earlier history h =
     }
 
 -- of the entries only what is touched and what is stable counts
-pub token_alike : (m : Setting) (s : State) (d : Disks) (segment seq clean : ℕ) (pages others : List Entry) → length others ≡ length pages
+pub token_alike : (m : Setting) (s : State) (d : Disks) (segment seq clean : ℕ) (pages others : List PageEntry) → length others ≡ length pages
     → ((page : ℕ) → page < m.geometry.pages → ((entry_at others page).stable ≡ (entry_at pages page).stable) × ((entry_at others page).touched ≡ (entry_at pages page).touched))
     → TokenFits m s d segment seq clean pages → TokenFits m s d segment seq clean others
 token_alike m s d segment seq clean pages others long same h = record {
@@ -56,7 +56,7 @@ token_alike m s d segment seq clean pages others long same h = record {
 }
 
 -- less is clean too
-pub token_lower : (m : Setting) (s : State) (d : Disks) (segment seq clean low : ℕ) (pages : List Entry) → low ≤ clean → TokenFits m s d segment seq clean pages → TokenFits m s d segment seq low pages
+pub token_lower : (m : Setting) (s : State) (d : Disks) (segment seq clean low : ℕ) (pages : List PageEntry) → low ≤ clean → TokenFits m s d segment seq clean pages → TokenFits m s d segment seq low pages
 token_lower m s d segment seq clean low pages below h = record {
   count = h.count;
   few = h.few;
@@ -74,7 +74,7 @@ entry_is g x segment page within =
     get_or_from_slice_get (entries_of g x segment) page (entry page) no_entry
     (get-map entry (counting 0 g.pages) page page (get-counting 0 g.pages page within ∙ ap (λ (i : ℕ). Some i) same))
   where
-    entry : ℕ → Entry
+    entry : ℕ → PageEntry
     entry p = record no_entry { touched = x.touched segment p; stable = stable x segment p }
 
 pub entries_count : (g : Geometry) (x : Numbers) (segment : ℕ) → length (entries_of g x segment) ≡ g.pages
@@ -138,7 +138,7 @@ coherent_fresh m earlier numbers pages texts fits = record {
         few = (let few = m.geometry.few_pages in omega (arith, few));
         stable = λ page text known shows. stable_of segment page text known shows;
         within = λ page known.
-            let is = ap (λ (e : Entry). e.stable) (entry_is m.geometry x segment page known) in
+            let is = ap (λ (e : PageEntry). e.stable) (entry_is m.geometry x segment page known) in
             let most = (fits.stands segment page (pages segment page) first last known (inl refl)).within in
             omega (arith, is, most);
         touched = All-nil (IsTouched m.geometry segment (numbers segment) (entries_of m.geometry x segment));
@@ -158,7 +158,7 @@ coherent_fresh m earlier numbers pages texts fits = record {
 
     stable_of : (segment page : ℕ) (text : Page) → page < m.geometry.pages → Shows x.disks segment page text → (entry_at (entries_of m.geometry x segment) page).stable ≤ text.sequence
     stable_of segment page text known (inl is) =
-        let one = ap (λ (e : Entry). e.stable) (entry_is m.geometry x segment page known) in
+        let one = ap (λ (e : PageEntry). e.stable) (entry_is m.geometry x segment page known) in
         let two = ap (λ (p : Page). p.sequence) is in
         omega (arith, one, two)
     stable_of segment page text known (inr opened) = absurd cc

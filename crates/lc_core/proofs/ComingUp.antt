@@ -27,8 +27,8 @@ use Rattle.lc_core.specs.Recovers.{RecoversDown, RefusesAtOnce}
 use Rattle.lc_core.specs.World.{AsksIn, BeginsAnew, FollowsWorld, StillFitsWorld}
 use Rattle.lc_core.specs.declared.call_fault.CallFault.{CallFault}
 use Rattle.lc_core.specs.declared.call_fault.CallFault.TheVariants.{NoMemory, Refused as IsRefused}
-use Rattle.lc_core.specs.declared.phase.Phase.{Phase}
-use Rattle.lc_core.specs.declared.phase.Phase.TheVariants.{Down, Up, Taken}
+use Rattle.lc_core.specs.declared.world_phase.WorldPhase.{WorldPhase}
+use Rattle.lc_core.specs.declared.world_phase.WorldPhase.TheVariants.{Down, Up, Taken}
 use Rattle.lc_core.specs.declared.up.Up.{Up as Rising}
 use Rattle.lc_core.specs.declared.world.World.{World}
 use Rattle.lc_core.proofs.Asking.{asks_world}
@@ -49,7 +49,7 @@ replies_of (Err Failed) answer replies = if_ok_at answer _ _ replies refl
 replies_of (Err WantsRoom) answer replies = IfOk-from_err answer _ replies
 
 module _ {D : Type 0} (a : Ghosts D) where
-  pub same_down : (phase : Phase D a) (r new : Recovering D) → phase ≡ Down r → new ≡ r → Down new ≡ phase
+  pub same_down : (phase : WorldPhase D a) (r new : Recovering D) → phase ≡ Down r → new ≡ r → Down new ≡ phase
   same_down phase r new is same = ap (λ (v : Recovering D). Down v) same ∙ sym is
 
   -- One step
@@ -78,7 +78,7 @@ module _ {D : Type 0} (a : Ghosts D) where
       asks = asks_world a old RecoverStep asks;
       at_all = asks;
       still = still;
-      lives = λ g at fits. subst (λ (p : Phase D a). FitsLife a g at p) (sym same) fits;
+      lives = λ g at fits. subst (λ (p : WorldPhase D a). FitsLife a g at p) (sym same) fits;
       failures = failures;
       geometry = geometry;
       kept = kept;
@@ -87,18 +87,18 @@ module _ {D : Type 0} (a : Ghosts D) where
   }
 
   -- what answers otherwise than that it is not its turn was down
-  was_down : (phase : Phase D a) (reply : Reply) (new : Phase D a) → RefusesAtOnce a phase RecoverStep reply new → (reply ≡ Refused OutOfTurn → ⊥) → (r : Recovering D) × (phase ≡ Down r)
+  was_down : (phase : WorldPhase D a) (reply : Reply) (new : WorldPhase D a) → RefusesAtOnce a phase RecoverStep reply new → (reply ≡ Refused OutOfTurn → ⊥) → (r : Recovering D) × (phase ≡ Down r)
   was_down (Down r) reply new at_once turn = (r, refl)
   was_down (Up up) reply new at_once turn = absurd (turn (at_once OutOfTurn refl).0)
   was_down Taken reply new at_once turn = absurd (turn (at_once OutOfTurn refl).0)
 
   -- a step that says that more are to come leaves one less, in a store that is still down
-  record Goes (old new : Phase D a) : Type 0 where
+  record Goes (old new : WorldPhase D a) : Type 0 where
     less : steps_left a new + 1 ≤ steps_left a old
     down : stands_up a old ≡ false
     still : stands_up a new ≡ false
 
-  goes_on : (old new : Phase D a) (steps : ℕ) → RefusesAtOnce a old RecoverStep (Stepped steps) new → RecoversDown a old (Stepped steps) new → Goes old new
+  goes_on : (old new : WorldPhase D a) (steps : ℕ) → RefusesAtOnce a old RecoverStep (Stepped steps) new → RecoversDown a old (Stepped steps) new → Goes old new
   goes_on old new steps at_once recovers =
       let there = was_down old (Stepped steps) new at_once (λ is. absurd cc) in
       let answers = recovers there.0 there.1 in
@@ -139,7 +139,7 @@ module _ {D : Type 0} (a : Ghosts D) where
       ap (stands_up a) up.1.1
   comes_up (suc more) old new steps = comes_up more steps.1 new steps.3
 
-  refused_stays : (old new : Phase D a) (refusal : Refusal) → RefusesAtOnce a old RecoverStep (Refused refusal) new → RecoversDown a old (Refused refusal) new → stands_up a new ≡ stands_up a old
+  refused_stays : (old new : WorldPhase D a) (refusal : Refusal) → RefusesAtOnce a old RecoverStep (Refused refusal) new → RecoversDown a old (Refused refusal) new → stands_up a new ≡ stands_up a old
   refused_stays (Down r) new refusal at_once recovers = ap (stands_up a) ((recovers r refl).refused refusal refl).1
   refused_stays (Up up) new refusal at_once recovers = ap (stands_up a) (at_once OutOfTurn refl).1
   refused_stays Taken new refusal at_once recovers = ap (stands_up a) (at_once OutOfTurn refl).1
@@ -152,12 +152,12 @@ module _ {D : Type 0} (a : Ghosts D) where
       up_as_before more steps.1 fault new steps.3 ∙ goes.still ∙ sym goes.down
 
   -- a store that is up answers at once
-  turn_of : (phase : Phase D a) (reply : Reply) (new : Phase D a) → stands_up a phase ≡ true → RefusesAtOnce a phase RecoverStep reply new → (reply ≡ Refused OutOfTurn) × (new ≡ phase)
+  turn_of : (phase : WorldPhase D a) (reply : Reply) (new : WorldPhase D a) → stands_up a phase ≡ true → RefusesAtOnce a phase RecoverStep reply new → (reply ≡ Refused OutOfTurn) × (new ≡ phase)
   turn_of (Up up) reply new is at_once = at_once OutOfTurn refl
   turn_of (Down r) reply new is at_once = absurd cc
   turn_of Taken reply new is at_once = absurd cc
 
-  never_wants : (phase : Phase D a) → stands_up a phase ≡ true → AsksIn a phase RecoverStep → ⊥
+  never_wants : (phase : WorldPhase D a) → stands_up a phase ≡ true → AsksIn a phase RecoverStep → ⊥
   never_wants (Up up) is asks = asks.1
   never_wants (Down r) is asks = absurd cc
   never_wants Taken is asks = asks
@@ -176,10 +176,10 @@ module _ {D : Type 0} (a : Ghosts D) where
       (turn_is (Err (IsRefused refusal)) (Refused refusal) refl turn.0, turn.1)
   at_once_turn (suc more) old result new steps is = (let goes = goes_on old.phase steps.1.phase steps.0 steps.2.steps.at_once steps.2.recovers in absurd (true≢false (sym is ∙ goes.down)))
 
-  born_up : (g : Geometry) (up : Rising D a) (phase : Phase D a) → phase ≡ Up up → BeginsAnew a g up → IsNewborn a phase
+  born_up : (g : Geometry) (up : Rising D a) (phase : WorldPhase D a) → phase ≡ Up up → BeginsAnew a g up → IsNewborn a phase
   born_up g up phase is begins =
       let its = born a g up begins in
-      (its.0, subst (λ (h : Geometry). IsBorn h its.0) (sym its.3) its.1, subst (λ (p : Phase D a). FitsLife a its.0.setting.geometry (Some its.0) p) (sym is) (its.2, refl))
+      (its.0, subst (λ (h : Geometry). IsBorn h its.0) (sym its.3) its.1, subst (λ (p : WorldPhase D a). FitsLife a its.0.setting.geometry (Some its.0) p) (sym is) (its.2, refl))
 
   -- what comes up is born
   pub newborn : (old new : World D a) → RecoversTo a old Recovered new → IsNewborn a new.phase

@@ -9,7 +9,7 @@ use Rattle.std.proofs.lemmas.Option.{slice_get-map, slice_get_within}
 use Rattle.std.proofs.lemmas.List.Elements.{All-nil, All-head, All-tail, All-map, All-filter, All-from_recursion, All-weaker}
 use Rattle.lc_log.specs.LogText.{IsWhole}
 use Rattle.lc_page.specs.PageVector.{entry_at, entry_text, touched_at}
-use Rattle.lc_page.specs.declared.entry.Entry.{Entry}
+use Rattle.lc_page.specs.declared.page_entry.PageEntry.{PageEntry}
 use Rattle.lc_range.specs.RangeSet.{Has, IsCanonical}
 use Rattle.lc_range.specs.declared.range.Range.{Range}
 use Rattle.lc_record.specs.Content.{Content, segment_of}
@@ -52,7 +52,7 @@ use Rattle.lc_core.specs.Slots.{Awaits, Besides, FitsSlot, FitsSlots, FitsToken,
 use Rattle.lc_core.specs.Turns.{with_record}
 use Rattle.lc_core.specs.declared.here.Here.{Here}
 use Rattle.lc_core.specs.Seat.{Seat}
-use Rattle.lc_core.specs.declared.slot.Slot.{Slot}
+use Rattle.lc_core.specs.declared.segment_copy.SegmentCopy.{SegmentCopy}
 
 -- The numbers of the tokens
 
@@ -314,7 +314,7 @@ none_waits m s x segment low (part ∷ parts) up waits same =
     let most : part.seq ≤ token_number s x segment = (All-head (Awaits m s x segment) part parts waits).closed in
     absurd (omega (arith, up.0, most, same))
 
-counts : (slot : Slot) (token : Token) → slot.token.token ≡ Some token → token.seq < 2 ^ 60 → token.seq ≡ slot.parts.applied → countable slot ≡ Some token
+counts : (slot : SegmentCopy) (token : Token) → slot.token.token ≡ Some token → token.seq < 2 ^ 60 → token.seq ≡ slot.parts.applied → countable slot ≡ Some token
 counts slot token is few same =
     ap (countable_in slot.parts.applied) is
     ∙ ap (λ b. if b then Some token else None) (and_from (nat_lt token.seq (2 ^ 60)) (token.seq == slot.parts.applied) (lt-ltb token.seq (2 ^ 60) few) (eq-eqb token.seq slot.parts.applied same))
@@ -398,13 +398,13 @@ module _ (m : Setting) (n i : ℕ) (s : State) (x : Numbers) (t : Transaction) (
       small = omega (arith, c.next, few);
       clean = c.same_clean ∙ h.clean;
       pages = c.same_count ∙ h.pages;
-      touched = λ page within. ap (λ (e : Entry). e.touched) (entry page within)
+      touched = λ page within. ap (λ (e : PageEntry). e.touched) (entry page within)
           ∙ elim (sets_on segment page t) as (λ b. (if b then touched_at (entry_at old.pages page) (old.seq + 1) else entry_at old.pages page).touched
           ≡ (if b then max (x.touched segment page) (token_number s x segment + 1) else x.touched segment page)) [
             | true ↦ ap (λ k. max k (old.seq + 1)) (h.touched page within) ∙ ap (λ k. max (x.touched segment page) (k + 1)) h.number
             | false ↦ h.touched page within
           ];
-      stable_is = λ page within. ap (λ (e : Entry). e.stable) (entry page within)
+      stable_is = λ page within. ap (λ (e : PageEntry). e.stable) (entry page within)
           ∙ elim (sets_on segment page t) as (λ b. (if b then touched_at (entry_at old.pages page) (old.seq + 1) else entry_at old.pages page).stable ≡ stable x segment page) [
             | true ↦ h.stable_is page within
             | false ↦ h.stable_is page within
@@ -414,7 +414,7 @@ module _ (m : Setting) (n i : ℕ) (s : State) (x : Numbers) (t : Transaction) (
             | true ↦ h.text_is page within
             | false ↦ h.text_is page within
           ];
-      uncounted = λ page within. ap (λ (e : Entry). e.uncommitted) (entry page within)
+      uncounted = λ page within. ap (λ (e : PageEntry). e.uncommitted) (entry page within)
           ∙ elim (sets_on segment page t) as (λ b. (if b then touched_at (entry_at old.pages page) (old.seq + 1) else entry_at old.pages page).uncommitted ≡ 0) [
             | true ↦ h.uncounted page within
             | false ↦ h.uncounted page within
@@ -425,7 +425,7 @@ module _ (m : Setting) (n i : ℕ) (s : State) (x : Numbers) (t : Transaction) (
         entry page within = c.entries page (subst (λ k. page < k) (sym h.pages) within)
             ∙ ap (λ b. if b then touched_at (entry_at old.pages page) (old.seq + 1) else entry_at old.pages page) (names_page_is t ranges canonical has segment page)
 
-    slot_counted : (segment : ℕ) (token : Token) (old new : Slot) → sets segment t ≡ true → old.token.token ≡ Some token → token.seq < 2 ^ 60 → FitsSlot m n segment (beside old) s x → CountsSlot segment ranges token old new
+    slot_counted : (segment : ℕ) (token : Token) (old new : SegmentCopy) → sets segment t ≡ true → old.token.token ≡ Some token → token.seq < 2 ^ 60 → FitsSlot m n segment (beside old) s x → CountsSlot segment ranges token old new
         → FitsSlot m n segment (beside new) after y
     slot_counted segment token old new set is few h c = record {
       applied = ap (λ (p : Backlog). p.applied) c.parts_are ∙ ap (λ k. k + 1) fits.number ∙ sym (applied_set segment set);
@@ -450,7 +450,7 @@ module _ (m : Setting) (n i : ℕ) (s : State) (x : Numbers) (t : Transaction) (
         none_after = ap (λ (p : Backlog). p.kept) c.parts_are ∙ ap (above (token.seq + 1)) none
 
     module _ (few : (segment : ℕ) → sets segment t ≡ true → token_number s x segment < 2 ^ 60) where
-      slot_after : (segment : ℕ) (old new : Slot) → (sets segment t ≡ true → IsSome (number_in old.token.token)) → FitsSlot m n segment (beside old) s x → Counts segment ranges old new → FitsSlot m n segment (beside new) after y
+      slot_after : (segment : ℕ) (old new : SegmentCopy) → (sets segment t ≡ true → IsSome (number_in old.token.token)) → FitsSlot m n segment (beside old) s x → Counts segment ranges old new → FitsSlot m n segment (beside new) after y
       slot_after segment old new here h c = elim (sets segment t) as (λ b. sets segment t ≡ b → FitsSlot m n segment (beside new) after y) [
         | true ↦ λ set.
             let at : (token : Token) × (old.token.token ≡ Some token) = token_in old.token.token (here set) in
@@ -472,9 +472,9 @@ module _ (m : Setting) (n i : ℕ) (s : State) (x : Numbers) (t : Transaction) (
       slots_counted old new here each h = record {
         count = length-map new.slots.items beside ∙ each.same_length ∙ sym (length-map old.slots.items beside) ∙ h.count;
         each = λ k b at.
-            let now : (slot : Slot) × (slice_get new.slots.items k ≡ Some slot) × (beside slot ≡ b) = got new.slots.items k b at in
+            let now : (slot : SegmentCopy) × (slice_get new.slots.items k ≡ Some slot) × (beside slot ≡ b) = got new.slots.items k b at in
             let within : k < length new.slots.items = slice_get_within new.slots.items k now.0 now.1 in
-            let was : (slot : Slot) × (slice_get old.slots.items k ≡ Some slot) = get-some old.slots.items k (subst (λ l. k < l) each.same_length within) in
+            let was : (slot : SegmentCopy) × (slice_get old.slots.items k ≡ Some slot) = get-some old.slots.items k (subst (λ l. k < l) each.same_length within) in
             let one = each.each k was.0 was.1 in
             let same : one.0 ≡ now.0 = same_some one.0 now.0 (sym one.1 ∙ now.1) in
             subst (λ z. FitsSlot m n (k + 1) z after y) now.2
@@ -484,7 +484,7 @@ module _ (m : Setting) (n i : ℕ) (s : State) (x : Numbers) (t : Transaction) (
             (subst (λ z. Counts (k + 1) ranges was.0 z) same one.2));
       }
         where
-          got : (slots : List Slot) (k : ℕ) (b : Besides) → slice_get (map beside slots) k ≡ Some b → (slot : Slot) × (slice_get slots k ≡ Some slot) × (beside slot ≡ b)
+          got : (slots : List SegmentCopy) (k : ℕ) (b : Besides) → slice_get (map beside slots) k ≡ Some b → (slot : SegmentCopy) × (slice_get slots k ≡ Some slot) × (beside slot ≡ b)
           got [] k b at = absurd cc
           got (slot ∷ slots) zero b at = (slot, refl, same_some (beside slot) b at)
           got (slot ∷ slots) (suc k) b at = got slots k b at

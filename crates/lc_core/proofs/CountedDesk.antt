@@ -23,7 +23,7 @@ use Rattle.lc_core.specs.Seat.{Seat, holder_of}
 use Rattle.lc_core.specs.Seats.{AllRun, AreShort}
 use Rattle.lc_core.specs.Slots.{AreInPlace, Besides, besides_of}
 use Rattle.lc_core.specs.declared.here.Here.{Here}
-use Rattle.lc_core.specs.declared.slot.Slot.{Slot}
+use Rattle.lc_core.specs.declared.segment_copy.SegmentCopy.{SegmentCopy}
 use Rattle.lc_core.proofs.Counting.{same_map}
 use Rattle.lc_core.proofs.Dropping.{seat_beside}
 
@@ -35,7 +35,7 @@ record Fixed : Type 0 where
   due : List Part
   here : Bool
 
-abbrev fixed : Slot → Fixed
+abbrev fixed : SegmentCopy → Fixed
 fixed slot = record {
   image = slot.image;
   segment = slot.token.segment;
@@ -44,7 +44,7 @@ fixed slot = record {
   here = is_some slot.token.token;
 }
 
-fixed_if : (o : Option Token) (segment : ℕ) (ranges : List Range) (old new : Slot) → countable old ≡ o
+fixed_if : (o : Option Token) (segment : ℕ) (ranges : List Range) (old new : SegmentCopy) → countable old ≡ o
     → MatchOption o (new ≡ old) (λ token. CountsSlot segment ranges token old new) → fixed new ≡ fixed old
 fixed_if None segment ranges old new is h = ap fixed h
 fixed_if (Some token) segment ranges old new is h = rw (h.same_image, h.token_is, h.parts_are, some_token old.token.token is) refl
@@ -57,7 +57,7 @@ abbrev image_in : Picture → Option Fixed → Picture
 image_in rest None = rest
 image_in rest (Some f) = f.image
 
-image_seen : (rest : Picture) (o : Option Slot) → image_at rest o ≡ image_in rest (option_map fixed o)
+image_seen : (rest : Picture) (o : Option SegmentCopy) → image_at rest o ≡ image_in rest (option_map fixed o)
 image_seen rest None = refl
 image_seen rest (Some slot) = refl
 
@@ -69,11 +69,11 @@ here_token : (o : Option Token) → is_some (number_in o) ≡ is_some o
 here_token None = refl
 here_token (Some token) = refl
 
-here_seen : (o : Option Slot) → is_some (number_at o) ≡ here_in (option_map fixed o)
+here_seen : (o : Option SegmentCopy) → is_some (number_at o) ≡ here_in (option_map fixed o)
 here_seen None = refl
 here_seen (Some slot) = here_token slot.token.token
 
-same_fixed : (segment : ℕ) (ranges : List Range) (old new : Slot) → Counts segment ranges old new → fixed new ≡ fixed old
+same_fixed : (segment : ℕ) (ranges : List Range) (old new : SegmentCopy) → Counts segment ranges old new → fixed new ≡ fixed old
 same_fixed segment ranges old new h = elim (cases_Bool (names segment ranges)) [
   | inl some ↦ fixed_if (countable old) segment ranges old new refl
       (MatchBool-at_true (MatchOption (countable old) (new ≡ old) (λ token. CountsSlot segment ranges token old new)) (new ≡ old) some h)
@@ -134,19 +134,19 @@ module _ (ranges : List Range) (old new : Here) (counts : CountsAll ranges old.s
   pub in_place_counted : AreInPlace (besides_of old) → AreInPlace (besides_of new)
   in_place_counted placed k b there = at_slot (slice_get new.slots.items k) refl
     where
-      by_slot : (slot after : Slot) → slice_get old.slots.items k ≡ Some slot → beside after ≡ b → fixed after ≡ fixed slot → (b.0.segment ≡ k + 1) × (b.1.segment ≡ k + 1) × (b.1.due ≡ [])
+      by_slot : (slot after : SegmentCopy) → slice_get old.slots.items k ≡ Some slot → beside after ≡ b → fixed after ≡ fixed slot → (b.0.segment ≡ k + 1) × (b.1.segment ≡ k + 1) × (b.1.due ≡ [])
       by_slot slot after was is stays =
           let its = placed k (beside slot) (get-map beside old.slots.items k slot was) in
           subst (λ (c : Besides). (c.0.segment ≡ k + 1) × (c.1.segment ≡ k + 1) × (c.1.due ≡ [])) is
           (ap (λ (f : Fixed). f.segment) stays ∙ its.0, ap (λ (f : Fixed). f.parts_segment) stays ∙ its.1, ap (λ (f : Fixed). f.due) stays ∙ its.2)
 
-      at_old : (after : Slot) → slice_get new.slots.items k ≡ Some after → (o : Option Slot) → slice_get old.slots.items k ≡ o → (b.0.segment ≡ k + 1) × (b.1.segment ≡ k + 1) × (b.1.due ≡ [])
+      at_old : (after : SegmentCopy) → slice_get new.slots.items k ≡ Some after → (o : Option SegmentCopy) → slice_get old.slots.items k ≡ o → (b.0.segment ≡ k + 1) × (b.1.segment ≡ k + 1) × (b.1.due ≡ [])
       at_old after is None was = (let none : Some (fixed after) ≡ None = sym (ap (option_map fixed) is) ∙ at k ∙ ap (option_map fixed) was in absurd cc)
       at_old after is (Some slot) was =
           by_slot slot after was (same_some (beside after) b (sym (get-map beside new.slots.items k after is) ∙ there))
           (same_some (fixed after) (fixed slot) (sym (ap (option_map fixed) is) ∙ at k ∙ ap (option_map fixed) was))
 
-      at_slot : (o : Option Slot) → slice_get new.slots.items k ≡ o → (b.0.segment ≡ k + 1) × (b.1.segment ≡ k + 1) × (b.1.due ≡ [])
+      at_slot : (o : Option SegmentCopy) → slice_get new.slots.items k ≡ o → (b.0.segment ≡ k + 1) × (b.1.segment ≡ k + 1) × (b.1.due ≡ [])
       at_slot None is = (let none : None ≡ Some b = sym (slice_get-map beside new.slots.items k ∙ ap (option_map beside) is) ∙ there in absurd cc)
       at_slot (Some after) is = at_old after is (slice_get old.slots.items k) refl
 

@@ -6,7 +6,7 @@ use Rattle.std.proofs.lemmas.List.Folds.{list_any-append}
 use Rattle.std.proofs.lemmas.Option.{slice_get_within as within}
 use Rattle.std.specs.Prelude.{slice_set, slice_get, Option, MatchBool, MatchOption}
 use Rattle.std.proofs.Math.Bool.{or-false as or_none, or-true as or_set}
-use Rattle.lc_page.specs.declared.entry.Entry.{Entry}
+use Rattle.lc_page.specs.declared.page_entry.PageEntry.{PageEntry}
 use Rattle.lc_page.specs.PageVector.{entry_at, touched_at}
 use Rattle.lc_range.specs.declared.range.Range.{Range}
 use Rattle.lc_range.specs.RangeSet.{IsCanonical, LiesBefore}
@@ -14,7 +14,7 @@ use Rattle.lc_token.specs.Standing.{Standing}
 use Rattle.lc_token.specs.declared.token.Token.{Token}
 use Rattle.lc_record.proofs.ListLemmas.{slice_get_some as there}
 use Rattle.lc_core.specs.Places.{same_some, get_set_other, get_set_same}
-use Rattle.lc_core.specs.declared.slot.Slot.{Slot}
+use Rattle.lc_core.specs.declared.segment_copy.SegmentCopy.{SegmentCopy}
 use Rattle.lc_core.specs.Counts.{Counts, CountsAll, CountsSlot, CountsToken, TouchesSlot, TouchesToken, countable, counting, is_on, names, names_page}
 
 -- what one range more names
@@ -51,7 +51,7 @@ pages_none segment page (r ∷ done) none =
     ap (λ b. (b && is_on r.offset r.len page) || names_page segment page done) both.0 ∙ pages_none segment page done both.1
 
 -- an outcome of a slot: what `Counts` says where a range names its segment, and whether it counted
-pub record Outcome (segment : ℕ) (ranges : List Range) (flag : Bool) (old new : Slot) : Type 0 where
+pub record Outcome (segment : ℕ) (ranges : List Range) (flag : Bool) (old new : SegmentCopy) : Type 0 where
   pub is : MatchOption (countable old) ((new ≡ old) × (flag ≡ false)) (λ token. CountsSlot segment ranges token old new × (flag ≡ true))
 
 map_option : {A : Type 0} (o : Option A) (P P' : Type 0) (Q Q' : A → Type 0) → (P → P') → ((x : A) → Q x → Q' x) → MatchOption o P Q → MatchOption o P' Q'
@@ -59,19 +59,19 @@ map_option None P P' Q Q' f g h = f h
 map_option (Some x) P P' Q Q' f g h = g x h
 
 -- a segment that no range names stays
-stays : (segment : ℕ) (ranges : List Range) (old new : Slot) → names segment ranges ≡ false → Counts segment ranges old new → new ≡ old
+stays : (segment : ℕ) (ranges : List Range) (old new : SegmentCopy) → names segment ranges ≡ false → Counts segment ranges old new → new ≡ old
 stays segment ranges old new none h = MatchBool-at_false (MatchOption (countable old) (new ≡ old) (λ token. CountsSlot segment ranges token old new)) (new ≡ old) none h
 
-counts_none : (segment : ℕ) (ranges : List Range) (old new : Slot) → names segment ranges ≡ false → new ≡ old → Counts segment ranges old new
+counts_none : (segment : ℕ) (ranges : List Range) (old new : SegmentCopy) → names segment ranges ≡ false → new ≡ old → Counts segment ranges old new
 counts_none segment ranges old new none same =
     subst (λ (b : Bool). MatchBool b (MatchOption (countable old) (new ≡ old) (λ token. CountsSlot segment ranges token old new)) (new ≡ old)) (sym none) same
 
-counts_some : (segment : ℕ) (ranges : List Range) (old new : Slot) → names segment ranges ≡ true
+counts_some : (segment : ℕ) (ranges : List Range) (old new : SegmentCopy) → names segment ranges ≡ true
     → MatchOption (countable old) (new ≡ old) (λ token. CountsSlot segment ranges token old new) → Counts segment ranges old new
 counts_some segment ranges old new some h =
     subst (λ (b : Bool). MatchBool b (MatchOption (countable old) (new ≡ old) (λ token. CountsSlot segment ranges token old new)) (new ≡ old)) (sym some) h
 
-counts_from : (segment : ℕ) (ranges : List Range) (flag : Bool) (old new : Slot) → names segment ranges ≡ true → Outcome segment ranges flag old new → Counts segment ranges old new
+counts_from : (segment : ℕ) (ranges : List Range) (flag : Bool) (old new : SegmentCopy) → names segment ranges ≡ true → Outcome segment ranges flag old new → Counts segment ranges old new
 counts_from segment ranges flag old new some h =
     counts_some segment ranges old new some
     (map_option (countable old) _ _ _ _ (λ p. p.0) (λ token p. p.0) h.is)
@@ -89,7 +89,7 @@ token_other segment done r old new differ h = record {
       ∙ ap (λ (b : Bool). if b then touched_at (entry_at old.pages page) (old.seq + 1) else entry_at old.pages page) (sym (pages_other segment page done r differ));
 }
 
-slot_other : (segment : ℕ) (done : List Range) (r : Range) (token : Token) (old new : Slot) → r.segment ≢ segment
+slot_other : (segment : ℕ) (done : List Range) (r : Range) (token : Token) (old new : SegmentCopy) → r.segment ≢ segment
     → CountsSlot segment done token old new → CountsSlot segment (done ++ r ∷ []) token old new
 slot_other segment done r token old new differ h = record {
   same_image = h.same_image;
@@ -99,13 +99,13 @@ slot_other segment done r token old new differ h = record {
   parts_are = h.parts_are;
 }
 
-outcome_other : (segment : ℕ) (done : List Range) (r : Range) (flag : Bool) (old new : Slot) → r.segment ≢ segment
+outcome_other : (segment : ℕ) (done : List Range) (r : Range) (flag : Bool) (old new : SegmentCopy) → r.segment ≢ segment
     → Outcome segment done flag old new → Outcome segment (done ++ r ∷ []) flag old new
 outcome_other segment done r flag old new differ h = record {
   is = map_option (countable old) _ _ _ _ (λ p. p) (λ token p. (slot_other segment done r token old new differ p.0, p.1)) h.is;
 }
 
-counts_other : (segment : ℕ) (done : List Range) (r : Range) (old new : Slot) → r.segment ≢ segment → Counts segment done old new → Counts segment (done ++ r ∷ []) old new
+counts_other : (segment : ℕ) (done : List Range) (r : Range) (old new : SegmentCopy) → r.segment ≢ segment → Counts segment done old new → Counts segment (done ++ r ∷ []) old new
 counts_other segment done r old new differ h =
     let same = names_other segment done r differ in
     elim (cases_Bool (names segment done)) [
@@ -127,20 +127,20 @@ token_first segment done token none = record {
       ap (λ (b : Bool). if b then touched_at (entry_at token.pages page) (token.seq + 1) else entry_at token.pages page) (sym (pages_none segment page done none));
 }
 
-pub outcome_first : (segment : ℕ) (done : List Range) (flag : Bool) (old mid new : Slot) → names segment done ≡ false → mid ≡ old
+pub outcome_first : (segment : ℕ) (done : List Range) (flag : Bool) (old mid new : SegmentCopy) → names segment done ≡ false → mid ≡ old
     → MatchOption (countable mid) ((flag ≡ false) × (new ≡ mid)) (λ token. (flag ≡ true) × (new ≡ counting token mid)) → Outcome segment done flag old new
 outcome_first segment done flag old mid new none same h =
     let from : MatchOption (countable old) ((flag ≡ false) × (new ≡ old)) (λ token. (flag ≡ true) × (new ≡ counting token old)) =
-    subst (λ (s : Slot). MatchOption (countable s) ((flag ≡ false) × (new ≡ s)) (λ token. (flag ≡ true) × (new ≡ counting token s))) same h in record {
+    subst (λ (s : SegmentCopy). MatchOption (countable s) ((flag ≡ false) × (new ≡ s)) (λ token. (flag ≡ true) × (new ≡ counting token s))) same h in record {
       is = map_option (countable old) _ _ _ _
           (λ p. (p.1, p.0))
           (λ token p. (
             record {
-              same_image = ap (λ (s : Slot). s.image) p.1;
+              same_image = ap (λ (s : SegmentCopy). s.image) p.1;
               after = record token { seq = token.seq + 1 };
-              token_is = ap (λ (s : Slot). s.token) p.1;
+              token_is = ap (λ (s : SegmentCopy). s.token) p.1;
               counts = token_first segment done token none;
-              parts_are = ap (λ (s : Slot). s.parts) p.1;
+              parts_are = ap (λ (s : SegmentCopy). s.parts) p.1;
             },
             p.0,
           ))
@@ -149,13 +149,13 @@ outcome_first segment done flag old mid new none same h =
 
 -- its pages are changed
 
-twice : (first second : Bool) (number : ℕ) (old mid new : Entry) → mid ≡ (if first then touched_at old number else old) → new ≡ (if second then touched_at mid number else mid)
+twice : (first second : Bool) (number : ℕ) (old mid new : PageEntry) → mid ≡ (if first then touched_at old number else old) → new ≡ (if second then touched_at mid number else mid)
     → new ≡ (if first || second then touched_at old number else old)
 twice true true number old mid new one two =
     let same : max (max old.touched number) number ≡ max old.touched number = omega arith in
-    two ∙ ap (λ (e : Entry). touched_at e number) one ∙ ap (λ (n : ℕ). record old { touched = n }) same
+    two ∙ ap (λ (e : PageEntry). touched_at e number) one ∙ ap (λ (n : ℕ). record old { touched = n }) same
 twice true false number old mid new one two = two ∙ one
-twice false true number old mid new one two = two ∙ ap (λ (e : Entry). touched_at e number) one
+twice false true number old mid new one two = two ∙ ap (λ (e : PageEntry). touched_at e number) one
 twice false false number old mid new one two = two ∙ one
 
 token_more : (segment : ℕ) (done : List Range) (r : Range) (old mid new : Token) → r.segment ≡ segment → CountsToken segment done old mid
@@ -174,18 +174,18 @@ token_more segment done r old mid new same h t = record {
       ∙ ap (λ (b : Bool). if b then touched_at (entry_at old.pages page) (old.seq + 1) else entry_at old.pages page) (sym (pages_own segment page done r same));
 }
 
-slot_more : (segment : ℕ) (done : List Range) (r : Range) (token : Token) (old mid new : Slot) → r.segment ≡ segment → CountsSlot segment done token old mid
+slot_more : (segment : ℕ) (done : List Range) (r : Range) (token : Token) (old mid new : SegmentCopy) → r.segment ≡ segment → CountsSlot segment done token old mid
     → MatchOption mid.token.token (new ≡ mid) (λ t. TouchesSlot r.offset r.len t mid new) → CountsSlot segment (done ++ r ∷ []) token old new
 slot_more segment done r token old mid new same h touched =
     let t = subst (λ (o : Option Token). MatchOption o (new ≡ mid) (λ t. TouchesSlot r.offset r.len t mid new)) (ap (λ (p : Standing). p.token) h.token_is) touched in record {
-      same_image = ap (λ (s : Slot). s.image) t.slot_is ∙ h.same_image;
+      same_image = ap (λ (s : SegmentCopy). s.image) t.slot_is ∙ h.same_image;
       after = t.after;
-      token_is = ap (λ (s : Slot). s.token) t.slot_is ∙ ap (λ (p : Standing). record p { token = Some t.after }) h.token_is;
+      token_is = ap (λ (s : SegmentCopy). s.token) t.slot_is ∙ ap (λ (p : Standing). record p { token = Some t.after }) h.token_is;
       counts = token_more segment done r token h.after t.after same h.counts t.touches;
-      parts_are = ap (λ (s : Slot). s.parts) t.slot_is ∙ h.parts_are;
+      parts_are = ap (λ (s : SegmentCopy). s.parts) t.slot_is ∙ h.parts_are;
     }
 
-pub outcome_touched : (segment : ℕ) (done : List Range) (r : Range) (old mid new : Slot) → r.segment ≡ segment → (flag : Bool) → flag ≡ true
+pub outcome_touched : (segment : ℕ) (done : List Range) (r : Range) (old mid new : SegmentCopy) → r.segment ≡ segment → (flag : Bool) → flag ≡ true
     → Outcome segment done flag old mid → MatchOption mid.token.token (new ≡ mid) (λ t. TouchesSlot r.offset r.len t mid new)
     → Outcome segment (done ++ r ∷ []) flag old new
 outcome_touched segment done r old mid new same flag counted h touched = record {
@@ -195,20 +195,20 @@ outcome_touched segment done r old mid new same flag counted h touched = record 
       h.is;
 }
 
-pub outcome_left : (segment : ℕ) (done : List Range) (r : Range) (old new : Slot) (flag : Bool) → flag ≡ false
+pub outcome_left : (segment : ℕ) (done : List Range) (r : Range) (old new : SegmentCopy) (flag : Bool) → flag ≡ false
     → Outcome segment done flag old new → Outcome segment (done ++ r ∷ []) flag old new
 outcome_left segment done r old new flag clear h = record {
   is = map_option (countable old) _ _ _ _ (λ p. p) (λ token p. absurd (both_ways flag clear p.1)) h.is;
 }
 
 -- the slots after a part of the ranges, the last of them of this segment; `flag` says whether its slot counted
-pub record CountsSome (done : List Range) (segment : ℕ) (flag : Bool) (old now : List Slot) : Type 0 where
+pub record CountsSome (done : List Range) (segment : ℕ) (flag : Bool) (old now : List SegmentCopy) : Type 0 where
   pub all : CountsAll done old now
   pub reached : (k : ℕ) → k < length old → names (k + 1) done ≡ true → k + 1 ≤ segment
   pub named : (segment ≡ 0) ⊎ (names segment done ≡ true)
-  pub outcome : (k : ℕ) (slot after : Slot) → k + 1 ≡ segment → slice_get old k ≡ Some slot → slice_get now k ≡ Some after → Outcome segment done flag slot after
+  pub outcome : (k : ℕ) (slot after : SegmentCopy) → k + 1 ≡ segment → slice_get old k ≡ Some slot → slice_get now k ≡ Some after → Outcome segment done flag slot after
 
-pub none_done : (flag : Bool) (slots : List Slot) → CountsSome [] 0 flag slots slots
+pub none_done : (flag : Bool) (slots : List SegmentCopy) → CountsSome [] 0 flag slots slots
 none_done flag slots = record {
   all = record { same_length = refl; each = λ k slot is. (slot, is, refl) };
   reached = λ k within some. absurd cc;
@@ -221,7 +221,7 @@ names_more segment done r some =
     list_any-append (λ (q : Range). q.segment == segment) done (r ∷ []) ∙ ap (λ b. b || ((r.segment == segment) || false)) some
 
 -- a range of no slot
-pub range_skipped : (done : List Range) (r : Range) (segment : ℕ) (flag : Bool) (old now : List Slot) → CountsSome done segment flag old now
+pub range_skipped : (done : List Range) (r : Range) (segment : ℕ) (flag : Bool) (old now : List SegmentCopy) → CountsSome done segment flag old now
     → (1 ≤ r.segment → r.segment ≤ length old → ⊥) → CountsSome (done ++ r ∷ []) segment flag old now
 range_skipped done r segment flag old now h outside =
     let differ = λ (k : ℕ) (lt : k < length old) (e : r.segment ≡ k + 1). outside (omega (arith, e)) (omega (arith, e, lt)) in record {
@@ -238,10 +238,10 @@ range_skipped done r segment flag old now h outside =
     }
 
 -- a range of this slot
-module _ (done : List Range) (r : Range) (segment : ℕ) (flag : Bool) (old now : List Slot) (h : CountsSome done segment flag old now)
+module _ (done : List Range) (r : Range) (segment : ℕ) (flag : Bool) (old now : List SegmentCopy) (h : CountsSome done segment flag old now)
     (before : (s : ℕ) → names s done ≡ true → s ≤ r.segment)
-    (k : ℕ) (is : r.segment ≡ k + 1) (mid : Slot) (mid_is : slice_get now k ≡ Some mid) where
-  pub the_slot : (slot : Slot) × (slice_get old k ≡ Some slot)
+    (k : ℕ) (is : r.segment ≡ k + 1) (mid : SegmentCopy) (mid_is : slice_get now k ≡ Some mid) where
+  pub the_slot : (slot : SegmentCopy) × (slice_get old k ≡ Some slot)
   the_slot = there old k (omega (arith, within now k mid mid_is, h.all.same_length))
 
   -- the first of its segment
@@ -256,7 +256,7 @@ module _ (done : List Range) (r : Range) (segment : ℕ) (flag : Bool) (old now 
     | inr none ↦ none
   ]
 
-  pub first_range : (next : Slot) (counted : Bool) → r.segment ≢ segment
+  pub first_range : (next : SegmentCopy) (counted : Bool) → r.segment ≢ segment
       → MatchOption (countable mid) ((counted ≡ false) × (next ≡ mid)) (λ token. (counted ≡ true) × (next ≡ counting token mid))
       → Outcome (k + 1) done counted the_slot.0 next
   first_range next counted differ counts =
@@ -270,7 +270,7 @@ module _ (done : List Range) (r : Range) (segment : ℕ) (flag : Bool) (old now 
       let number : segment ≡ k + 1 = sym same ∙ is in
       subst (λ (s : ℕ). Outcome s done flag the_slot.0 mid) number (h.outcome k the_slot.0 mid (sym number) the_slot.1 mid_is)
 
-  pub range_done : (new : Slot) (counted : Bool) → Outcome (k + 1) (done ++ r ∷ []) counted the_slot.0 new
+  pub range_done : (new : SegmentCopy) (counted : Bool) → Outcome (k + 1) (done ++ r ∷ []) counted the_slot.0 new
       → CountsSome (done ++ r ∷ []) r.segment counted old (slice_set now k new)
   range_done new counted result =
       let named_now : names (k + 1) (done ++ r ∷ []) ≡ true = names_own (k + 1) done r is in
@@ -283,7 +283,7 @@ module _ (done : List Range) (r : Range) (segment : ℕ) (flag : Bool) (old now 
                   new,
                   ap (slice_get (slice_set now k new)) same ∙ new_is,
                   subst (λ (i : ℕ). Counts (i + 1) (done ++ r ∷ []) slot new) (sym same)
-                      (subst (λ (s : Slot). Counts (k + 1) (done ++ r ∷ []) s new) own (counts_from (k + 1) (done ++ r ∷ []) counted the_slot.0 new named_now result)),
+                      (subst (λ (s : SegmentCopy). Counts (k + 1) (done ++ r ∷ []) s new) own (counts_from (k + 1) (done ++ r ∷ []) counted the_slot.0 new named_now result)),
                 )
             | inr differ ↦
                 let e = h.all.each j slot at in (
@@ -303,8 +303,8 @@ module _ (done : List Range) (r : Range) (segment : ℕ) (flag : Bool) (old now 
             let own : the_slot.0 ≡ slot = same_some the_slot.0 slot (sym the_slot.1 ∙ ap (slice_get old) (sym same) ∙ at) in
             let put : new ≡ after = same_some new after (sym new_is ∙ ap (slice_get (slice_set now k new)) (sym same) ∙ there_is) in
             subst (λ (s : ℕ). Outcome s (done ++ r ∷ []) counted slot after) (sym is)
-            (subst (λ (s : Slot). Outcome (k + 1) (done ++ r ∷ []) counted s after) own
-            (subst (λ (s : Slot). Outcome (k + 1) (done ++ r ∷ []) counted the_slot.0 s) put result));
+            (subst (λ (s : SegmentCopy). Outcome (k + 1) (done ++ r ∷ []) counted s after) own
+            (subst (λ (s : SegmentCopy). Outcome (k + 1) (done ++ r ∷ []) counted the_slot.0 s) put result));
       }
 
 -- the ranges ascend by segment
@@ -347,14 +347,14 @@ same_map f (x ∷ xs) (y ∷ ys) size each =
     let head : f y ≡ f x = ap f (same_some y first.0 first.1) ∙ first.2 in
     ap (λ b. b ∷ map f ys) head ∙ ap (λ bs. f x ∷ bs) (same_map f xs ys (omega (arith, size)) (λ k z is. each (suc k) z is))
 
-same_if : (o : Option Token) (segment : ℕ) (ranges : List Range) (old new : Slot)
+same_if : (o : Option Token) (segment : ℕ) (ranges : List Range) (old new : SegmentCopy)
     → MatchOption o (new ≡ old) (λ token. CountsSlot segment ranges token old new) → new.image ≡ old.image
-same_if None segment ranges old new h = ap (λ (s : Slot). s.image) h
+same_if None segment ranges old new h = ap (λ (s : SegmentCopy). s.image) h
 same_if (Some token) segment ranges old new h = h.same_image
 
-same_image : (segment : ℕ) (ranges : List Range) (old new : Slot) → Counts segment ranges old new → new.image ≡ old.image
+same_image : (segment : ℕ) (ranges : List Range) (old new : SegmentCopy) → Counts segment ranges old new → new.image ≡ old.image
 same_image segment ranges old new h = elim (cases_Bool (names segment ranges)) [
   | inl some ↦ same_if (countable old) segment ranges old new
       (MatchBool-at_true (MatchOption (countable old) (new ≡ old) (λ token. CountsSlot segment ranges token old new)) (new ≡ old) some h)
-  | inr none ↦ ap (λ (s : Slot). s.image) (stays segment ranges old new none h)
+  | inr none ↦ ap (λ (s : SegmentCopy). s.image) (stays segment ranges old new none h)
 ]

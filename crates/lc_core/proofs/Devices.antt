@@ -20,15 +20,15 @@ use Rattle.lc_core.proofs.Faults.{same_devices}
 use Rattle.lc_core.proofs.Opening.{log_area, segment_len}
 use Rattle.lc_core.specs.Places.{same_some}
 use Rattle.lc_core.specs.declared.log.Log.{Log}
-use Rattle.lc_core.specs.declared.node.Node.{Node}
+use Rattle.lc_core.specs.declared.node_state.NodeState.{NodeState}
 use Rattle.lc_core.specs.declared.running.Running.{Running}
 use Rattle.lc_core.specs.declared.up.Up.{Up as Rising}
 
 module _ {D : Type 0} (a : Ghosts D) where
-  kind_at : (nodes : List (Node D a)) (n : ℕ) → slice_get (log_kinds a (logs_of a nodes)) n ≡ option_map (λ (node : Node D a). kind_of a node.journal.log) (slice_get nodes n)
+  kind_at : (nodes : List (NodeState D a)) (n : ℕ) → slice_get (log_kinds a (logs_of a nodes)) n ≡ option_map (λ (node : NodeState D a). kind_of a node.journal.log) (slice_get nodes n)
   kind_at nodes n =
-      slice_get-map (kind_of a) (logs_of a nodes) n ∙ ap (option_map (kind_of a)) (slice_get-map (λ (node : Node D a). node.journal.log) nodes n)
-      ∙ (elim (slice_get nodes n) as (λ (o : Option (Node D a)). option_map (kind_of a) (option_map (λ (node : Node D a). node.journal.log) o) ≡ option_map (λ (node : Node D a). kind_of a node.journal.log) o) [ None ↦ refl | Some node ↦ refl ])
+      slice_get-map (kind_of a) (logs_of a nodes) n ∙ ap (option_map (kind_of a)) (slice_get-map (λ (node : NodeState D a). node.journal.log) nodes n)
+      ∙ (elim (slice_get nodes n) as (λ (o : Option (NodeState D a)). option_map (kind_of a) (option_map (λ (node : NodeState D a). node.journal.log) o) ≡ option_map (λ (node : NodeState D a). kind_of a node.journal.log) o) [ None ↦ refl | Some node ↦ refl ])
 
   kind_some : (log : Log D a) (kind : Bool × ℕ) → kind_of a log ≡ Some kind → (area : D) × (area_of a log ≡ Some area) × (device_kind a area ≡ kind)
   kind_some log kind is = elim (area_of a log) as (λ (o : Option D). area_of a log ≡ o → option_map (device_kind a) o ≡ Some kind → (area : D) × (area_of a log ≡ Some area) × (device_kind a area ≡ kind)) [
@@ -40,7 +40,7 @@ module _ {D : Type 0} (a : Ghosts D) where
   len_of_kind log = elim (area_of a log) as (λ (o : Option D). option_map (λ (area : D). length (a.now area)) o ≡ option_map (λ (kind : Bool × ℕ). kind.1) (option_map (device_kind a) o)) [ None ↦ refl | Some area ↦ refl ]
 
   -- the area of a node's log
-  pub log_area_of : (len : ℕ) (nodes : List (Node D a)) → HaveLogs a len nodes → (n : ℕ) (node : Node D a) → slice_get nodes n ≡ Some node
+  pub log_area_of : (len : ℕ) (nodes : List (NodeState D a)) → HaveLogs a len nodes → (n : ℕ) (node : NodeState D a) → slice_get nodes n ≡ Some node
       → (area : D) × (area_of a node.journal.log ≡ Some area) × (length (a.now area) ≡ len)
   log_area_of len nodes have n node at = elim (area_of a node.journal.log) as (λ (o : Option D). area_of a node.journal.log ≡ o → option_map (λ (area : D). length (a.now area)) o ≡ Some len
       → (area : D) × (area_of a node.journal.log ≡ Some area) × (length (a.now area) ≡ len)) [
@@ -48,14 +48,14 @@ module _ {D : Type 0} (a : Ghosts D) where
         | Some area ↦ λ there is. (area, there, same_some (length (a.now area)) len is)
       ] refl (have n node at)
 
-  module _ (olds news : List (Node D a)) (same : log_kinds a (logs_of a news) ≡ log_kinds a (logs_of a olds)) where
+  module _ (olds news : List (NodeState D a)) (same : log_kinds a (logs_of a news) ≡ log_kinds a (logs_of a olds)) where
     -- the node was there, with the same device
-    was : (n : ℕ) (node : Node D a) → slice_get news n ≡ Some node → (old : Node D a) × (slice_get olds n ≡ Some old) × (kind_of a node.journal.log ≡ kind_of a old.journal.log)
+    was : (n : ℕ) (node : NodeState D a) → slice_get news n ≡ Some node → (old : NodeState D a) × (slice_get olds n ≡ Some old) × (kind_of a node.journal.log ≡ kind_of a old.journal.log)
     was n node at =
-        let its : Some (kind_of a node.journal.log) ≡ option_map (λ (o : Node D a). kind_of a o.journal.log) (slice_get olds n) =
-        ap (option_map (λ (o : Node D a). kind_of a o.journal.log)) (sym at) ∙ sym (kind_at news n) ∙ ap (λ (kinds : List (Option (Bool × ℕ))). slice_get kinds n) same ∙ kind_at olds n in
-        elim (slice_get olds n) as (λ (o : Option (Node D a)). slice_get olds n ≡ o → Some (kind_of a node.journal.log) ≡ option_map (λ (o : Node D a). kind_of a o.journal.log) o
-        → (old : Node D a) × (slice_get olds n ≡ Some old) × (kind_of a node.journal.log ≡ kind_of a old.journal.log)) [
+        let its : Some (kind_of a node.journal.log) ≡ option_map (λ (o : NodeState D a). kind_of a o.journal.log) (slice_get olds n) =
+        ap (option_map (λ (o : NodeState D a). kind_of a o.journal.log)) (sym at) ∙ sym (kind_at news n) ∙ ap (λ (kinds : List (Option (Bool × ℕ))). slice_get kinds n) same ∙ kind_at olds n in
+        elim (slice_get olds n) as (λ (o : Option (NodeState D a)). slice_get olds n ≡ o → Some (kind_of a node.journal.log) ≡ option_map (λ (o : NodeState D a). kind_of a o.journal.log) o
+        → (old : NodeState D a) × (slice_get olds n ≡ Some old) × (kind_of a node.journal.log ≡ kind_of a old.journal.log)) [
           | None ↦ λ there is. absurd cc
           | Some old ↦ λ there is. (old, there, same_some (kind_of a node.journal.log) (kind_of a old.journal.log) is)
         ] refl its
@@ -66,8 +66,8 @@ module _ {D : Type 0} (a : Ghosts D) where
         len_of_kind node.journal.log ∙ ap (option_map (λ (kind : Bool × ℕ). kind.1)) old.2 ∙ sym (len_of_kind old.0.journal.log) ∙ have n old.0 old.1
 
     -- the old log of a node's area
-    was_area : (n : ℕ) (node : Node D a) (area : D) → slice_get news n ≡ Some node → area_of a node.journal.log ≡ Some area
-        → (old : Node D a) × (slice_get olds n ≡ Some old) × (before : D) × (area_of a old.journal.log ≡ Some before) × (device_kind a before ≡ device_kind a area)
+    was_area : (n : ℕ) (node : NodeState D a) (area : D) → slice_get news n ≡ Some node → area_of a node.journal.log ≡ Some area
+        → (old : NodeState D a) × (slice_get olds n ≡ Some old) × (before : D) × (area_of a old.journal.log ≡ Some before) × (device_kind a before ≡ device_kind a area)
     was_area n node area at there =
         let old = was n node at in
         let its = kind_some old.0.journal.log (device_kind a area) (sym old.2 ∙ ap (option_map (device_kind a)) there) in
@@ -105,8 +105,8 @@ module _ {D : Type 0} (a : Ghosts D) where
 
   -- The nodes and segments of a recovery have the areas that it had
 
-  pub logs_have : (g : Geometry) (areas : List D) (nodes : List (Node D a)) → HaveLengths a g areas → length nodes ≡ g.nodes
-      → ((n : ℕ) (node : Node D a) → slice_get nodes n ≡ Some node → area_of a node.journal.log ≡ slice_get areas n) → HaveLogs a (8 * (g.words + 1)) nodes
+  pub logs_have : (g : Geometry) (areas : List D) (nodes : List (NodeState D a)) → HaveLengths a g areas → length nodes ≡ g.nodes
+      → ((n : ℕ) (node : NodeState D a) → slice_get nodes n ≡ Some node → area_of a node.journal.log ≡ slice_get areas n) → HaveLogs a (8 * (g.words + 1)) nodes
   logs_have g areas nodes lengths count each n node at =
       let area = log_area a g areas n lengths (omega (arith, slice_get_within nodes n node at, count)) in
       ap (option_map (λ (d : D). length (a.now d))) (each n node at ∙ area.1) ∙ ap (λ (len : ℕ). Some len) area.2
@@ -116,8 +116,8 @@ module _ {D : Type 0} (a : Ghosts D) where
       segment_len a g areas k pages.area lengths
       (sym (get-drop g.nodes k areas) ∙ ap (λ (l : List D). slice_get l k) (sym are) ∙ get-map (λ (p : Pages D a). p.area) segments k pages at)
 
-  pub each_have : (g : Geometry) (areas : List D) (nodes same : List (Node D a)) → same ≡ nodes → HaveLengths a g areas → length nodes ≡ g.nodes
-      → ((n : ℕ) (node : Node D a) → slice_get nodes n ≡ Some node → area_of a node.journal.log ≡ slice_get areas n) → HaveLogs a (8 * (g.words + 1)) same
+  pub each_have : (g : Geometry) (areas : List D) (nodes same : List (NodeState D a)) → same ≡ nodes → HaveLengths a g areas → length nodes ≡ g.nodes
+      → ((n : ℕ) (node : NodeState D a) → slice_get nodes n ≡ Some node → area_of a node.journal.log ≡ slice_get areas n) → HaveLogs a (8 * (g.words + 1)) same
   each_have g areas nodes same is lengths count each = subst (HaveLogs a (8 * (g.words + 1))) (sym is) (logs_have g areas nodes lengths count each)
 
   pub rests_have : (g h : Geometry) (segments : List (Pages D a)) → h ≡ g → RestsAll a h segments → HavePages a g.pages segments

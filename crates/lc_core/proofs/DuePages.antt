@@ -12,20 +12,20 @@ use Rattle.lc_model.specs.Refusals.{is_at, is_up}
 use Rattle.lc_model.specs.Sound.{IsPlace}
 use Rattle.lc_model.specs.State.{Place, At, Travelling, Phase, Setting, State, Up as IsUp}
 use Rattle.lc_core.specs.Here.{beside, number_at, number_in, the_images}
-use Rattle.lc_core.specs.Node.{FitsNode}
+use Rattle.lc_core.specs.NodeState.{FitsNode}
 use Rattle.lc_core.specs.Numbers.{Numbers, stable}
 use Rattle.lc_core.specs.PageState.{is_begun}
 use Rattle.lc_core.specs.Pages.{FitsArea, FitsPages, IsPageAt}
 use Rattle.lc_core.specs.Slots.{FitsToken}
 use Rattle.lc_core.specs.Truncating.{begun_at, begun_in, due_at, due_in, due_of, is_due}
 use Rattle.lc_core.specs.World.{FitsPhase, FitsUp}
-use Rattle.lc_core.specs.declared.node.Node.{Node}
+use Rattle.lc_core.specs.declared.node_state.NodeState.{NodeState}
 use Rattle.lc_core.specs.declared.page_state.PageState.{PageState}
 use Rattle.lc_core.specs.declared.page_state.PageState.TheVariants.{AtRest, UnderWay, Failed}
 use Rattle.lc_core.specs.declared.pages.Pages.{Pages}
-use Rattle.lc_core.specs.declared.phase.Phase.{Phase as Stands}
-use Rattle.lc_core.specs.declared.phase.Phase.TheVariants.{Down, Up, Taken}
-use Rattle.lc_core.specs.declared.slot.Slot.{Slot}
+use Rattle.lc_core.specs.declared.world_phase.WorldPhase.{WorldPhase as Stands}
+use Rattle.lc_core.specs.declared.world_phase.WorldPhase.TheVariants.{Down, Up, Taken}
+use Rattle.lc_core.specs.declared.segment_copy.SegmentCopy.{SegmentCopy}
 use Rattle.lc_core.specs.declared.up.Up.{Up as Rising}
 use Rattle.lc_page.specs.Writing.{calls_of}
 use Rattle.lc_page.specs.declared.writing.Writing.{Writing}
@@ -86,7 +86,7 @@ module _ {D : Type 0} (a : Ghosts D) where
     back : (k + 1) - 1 ≡ k
     back = omega arith
 
-    token_same : (its : Node D a) (slot : Slot) (token : Token) → FitsNode a m node its s x → slice_get its.desk.here.slots.items k ≡ Some slot → slot.token.token ≡ Some token
+    token_same : (its : NodeState D a) (slot : SegmentCopy) (token : Token) → FitsNode a m node its s x → slice_get its.desk.here.slots.items k ≡ Some slot → slot.token.token ≡ Some token
         → Same (due_of page begun (Some token))
     token_same its slot token one at stands =
         let number_there : the_images.number_of its.desk.here (k + 1) ≡ number_in slot.token.token = ap (the_images.number_of its.desk.here) next ∙ ap number_at at in
@@ -99,19 +99,19 @@ module _ {D : Type 0} (a : Ghosts D) where
         ∙ ap (λ (b : Bool). nat_lt (stable x (k + 1) page) (x.touched (k + 1) page) || b) (begun_of m up.segments.items x k page fits.pages inside within)
         ∙ ap (λ (b : Bool). b && is_unwritten x (k + 1) page) (sym here)
 
-    none_same : (its : Node D a) (slot : Slot) → FitsNode a m node its s x → slice_get its.desk.here.slots.items k ≡ Some slot → slot.token.token ≡ None → Same false
+    none_same : (its : NodeState D a) (slot : SegmentCopy) → FitsNode a m node its s x → slice_get its.desk.here.slots.items k ≡ Some slot → slot.token.token ≡ None → Same false
     none_same its slot one at none =
         let number_there : the_images.number_of its.desk.here (k + 1) ≡ number_in slot.token.token = ap (the_images.number_of its.desk.here) next ∙ ap number_at at in
         let away : is_at node (s.place (k + 1)) ≡ false = one.desk.elsewhere (k + 1) (omega arith) (omega (arith, inside)) (number_there ∙ ap number_in none) in
         ap (λ (b : Bool). b && is_unwritten x (k + 1) page) (sym away)
 
-    slot_same : (its : Node D a) (slot : Slot) → FitsNode a m node its s x → slice_get its.desk.here.slots.items k ≡ Some slot → Same (due_of page begun slot.token.token)
+    slot_same : (its : NodeState D a) (slot : SegmentCopy) → FitsNode a m node its s x → slice_get its.desk.here.slots.items k ≡ Some slot → Same (due_of page begun slot.token.token)
     slot_same its slot one at = elim slot.token.token as (λ (o : Option Token). slot.token.token ≡ o → Same (due_of page begun o)) [
       | None ↦ λ none. none_same its slot one at none
       | Some token ↦ λ stands. token_same its slot token one at stands
     ] refl
 
-    node_same : (its : Node D a) → FitsNode a m node its s x → Same (due_in page begun (slice_get its.desk.here.slots.items k))
+    node_same : (its : NodeState D a) → FitsNode a m node its s x → Same (due_in page begun (slice_get its.desk.here.slots.items k))
     node_same its one = elim (slice_get_cases its.desk.here.slots.items k).1 [
       | inl some ↦ ap (due_in page begun) some.2 ∙ slot_same its some.0 one some.2
       | inr past ↦

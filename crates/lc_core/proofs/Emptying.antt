@@ -8,13 +8,13 @@ use Rattle.lc_model.specs.declared.reply.Reply.{Reply}
 use Rattle.lc_model.specs.declared.reply.Reply.TheVariants.{Stepped, Reset}
 use Rattle.lc_model.proofs.Seats.{update-other}
 use Rattle.lc_core.specs.Follows.{SameButLog}
-use Rattle.lc_core.specs.Node.{FitsNode, GoesOn}
+use Rattle.lc_core.specs.NodeState.{FitsNode, GoesOn}
 use Rattle.lc_core.specs.Numbers.{Numbers}
 use Rattle.lc_core.specs.Resets.{GoesOnReset}
 use Rattle.lc_core.specs.Slots.{besides_of}
 use Rattle.lc_core.specs.Turns.{numbers_after}
 use Rattle.lc_core.specs.declared.journal.Journal.{Journal}
-use Rattle.lc_core.specs.declared.node.Node.{Node}
+use Rattle.lc_core.specs.declared.node_state.NodeState.{NodeState}
 use Rattle.lc_core.proofs.Going.{desk_logged}
 use Rattle.lc_core.proofs.Others.{beside_logged}
 use Rattle.lc_core.proofs.Slotted.{Stays, aside_stays, slots_stay, stays_where}
@@ -106,7 +106,7 @@ stays_itself node s = record {
 }
 
 module _ {D : Type 0} (a : Ghosts D) where
-  pub by_reset : (m : Setting) (n : ℕ) (s : State) (x : Numbers) (reply : Reply) (old : Node D a) (new : Journal D a) → FitsNode a m n old s x → new.group.room ≡ old.journal.group.room
+  pub by_reset : (m : Setting) (n : ℕ) (s : State) (x : Numbers) (reply : Reply) (old : NodeState D a) (new : Journal D a) → FitsNode a m n old s x → new.group.room ≡ old.journal.group.room
       → GoesOnReset a m n s x reply new → GoesOn a m n (ResetStep n) s x reply (record { desk = old.desk; journal = new; known = old.known })
   by_reset m n s x reply old new h room goes =
       let same : SameButLog n s goes.after = elim goes.same [

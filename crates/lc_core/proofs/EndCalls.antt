@@ -16,14 +16,14 @@ use Rattle.lc_core.specs.Faults.{SameDevices}
 use Rattle.lc_core.specs.Layers.{StepsRunning, TriesRunning}
 use Rattle.lc_core.specs.Log.{is_failed, is_sealed}
 use Rattle.lc_core.specs.MayReply.{may_reserve}
-use Rattle.lc_core.specs.Node.{FollowsReserve, HasSameRoom}
+use Rattle.lc_core.specs.NodeState.{FollowsReserve, HasSameRoom}
 use Rattle.lc_core.specs.NodeSteps.{StepsNode}
 use Rattle.lc_core.specs.Places.{same_some}
 use Rattle.lc_core.specs.Refuses.{ActsRunning, Refuses}
 use Rattle.lc_core.specs.declared.call_fault.CallFault.{CallFault}
 use Rattle.lc_core.specs.declared.call_fault.CallFault.TheVariants.{NoMemory, Refused as IsRefused}
-use Rattle.lc_core.specs.declared.node.Node.{Node}
-use Rattle.lc_core.specs.declared.phase.Phase.TheVariants.{Up}
+use Rattle.lc_core.specs.declared.node_state.NodeState.{NodeState}
+use Rattle.lc_core.specs.declared.world_phase.WorldPhase.TheVariants.{Up}
 use Rattle.lc_core.specs.declared.placement.Placement.{Placement}
 use Rattle.lc_core.specs.declared.placement.Placement.TheVariants.{Empty as IsEmpty, Record as HasRecord}
 use Rattle.lc_core.specs.declared.running.Running.{Running}
@@ -45,7 +45,7 @@ tried_of (Err NoMemory) reply is = absurd cc
 
 module _ {D : Type 0} (a : Ghosts D) where
   -- of a node that has answered so
-  pub placed_node : (n thread : ℕ) (old : Node D a) (reply : Reply) (mid : Node D a) → FollowsReserve a n thread (is_sealed a old.journal.log) old reply mid → HasSameRoom a old mid → may_reserve reply ≡ true
+  pub placed_node : (n thread : ℕ) (old : NodeState D a) (reply : Reply) (mid : NodeState D a) → FollowsReserve a n thread (is_sealed a old.journal.log) old reply mid → HasSameRoom a old mid → may_reserve reply ≡ true
       → mid.journal.log ≡ old.journal.log → (placed result : Result Placement CallFault) → StandsFor (Reserve n thread) (place_taken placed) reply → placed ≡ result → PlacesNode a n thread old (tried result) mid
   placed_node n thread old reply mid follows room names log placed result stands is =
       let same : tried result ≡ Ok reply = tried_of result reply (subst (λ (p : Result Placement CallFault). place_taken p ≡ Some reply) is (stands (answers_may (Reserve n thread) reply names))) in
@@ -54,7 +54,7 @@ module _ {D : Type 0} (a : Ghosts D) where
         log = log;
       }
 
-  pub end_room : (n thread : ℕ) (old : Node D a) (result : Result Placement CallFault) (new : Node D a) → EndsNode a n thread old result new → HasSameRoom a old new
+  pub end_room : (n thread : ℕ) (old : NodeState D a) (result : Result Placement CallFault) (new : NodeState D a) → EndsNode a n thread old result new → HasSameRoom a old new
   end_room n thread old result new (inl there) = there.places.steps.room
   end_room n thread old result new (inr closed) = record {
     seats = closed.closes.room.seats ∙ closed.places.steps.room.seats;
@@ -63,12 +63,12 @@ module _ {D : Type 0} (a : Ghosts D) where
 
   -- the node that acts, where nothing is refused at once
   module _ (w : Running D a) (n thread : ℕ) (refuses : Refuses a w (Close n thread) None) (known : is_known w.geometry (Close n thread) ≡ true)
-      (runs : ActsRunning a (named (Close n thread)) w.nodes.items) (node : Node D a) (read : node ≡ get_or w.nodes.items n node) where
+      (runs : ActsRunning a (named (Close n thread)) w.nodes.items) (node : NodeState D a) (read : node ≡ get_or w.nodes.items n node) where
     at : slice_get w.nodes.items n ≡ Some node
     at = stands a w (Close n thread) known n refl node read
 
     -- the nodes between the two
-    abbrev between : (mid : Node D a) → HasSameRoom a node mid → Running D a
+    abbrev between : (mid : NodeState D a) → HasSameRoom a node mid → Running D a
     between mid room = record {
       geometry = w.geometry;
       nodes = record {
@@ -88,12 +88,12 @@ module _ {D : Type 0} (a : Ghosts D) where
       named = w.named;
     }
 
-    places : (result : Result Reply AllocError) (mid : Node D a) → StepsNode a n (Reserve n thread) node result mid → (later : Running D a) → later.geometry ≡ w.geometry
+    places : (result : Result Reply AllocError) (mid : NodeState D a) → StepsNode a n (Reserve n thread) node result mid → (later : Running D a) → later.geometry ≡ w.geometry
         → later.nodes.items ≡ slice_set w.nodes.items n mid → later.travelling.items ≡ w.travelling.items → TriesRunning a w (Reserve n thread) result later
     places result mid steps later geometry nodes travelling =
         node_tries a w (Reserve n thread) refl None refuses refl known runs n refl node read result mid steps later geometry nodes travelling
 
-    closes : (mid : Node D a) (room : HasSameRoom a node mid) → mid.journal.log ≡ node.journal.log → (reply : Reply) (new : Node D a) → StepsNode a n (Close n thread) mid (Ok reply) new
+    closes : (mid : NodeState D a) (room : HasSameRoom a node mid) → mid.journal.log ≡ node.journal.log → (reply : Reply) (new : NodeState D a) → StepsNode a n (Close n thread) mid (Ok reply) new
         → (later : Running D a) → later.geometry ≡ w.geometry → later.nodes.items ≡ slice_set w.nodes.items n new → later.travelling.items ≡ w.travelling.items
         → StepsRunning a (between mid room) (Close n thread) reply later
     closes mid room log reply new steps later geometry nodes travelling =
@@ -104,7 +104,7 @@ module _ {D : Type 0} (a : Ghosts D) where
         (node_tries a m (Close n thread) refl None (none_at_once a m (Close n thread) known n refl mid here goes) refl known (acts_running a m (Close n thread) known n refl mid here goes) n refl mid here r new steps later
         geometry (nodes ∙ sym (set-set w.nodes.items n mid new)) travelling).steps
 
-    pub node_ends : (result : Result Placement CallFault) (new : Node D a) → EndsNode a n thread node result new → (later : Running D a) → later.geometry ≡ w.geometry
+    pub node_ends : (result : Result Placement CallFault) (new : NodeState D a) → EndsNode a n thread node result new → (later : Running D a) → later.geometry ≡ w.geometry
         → later.nodes.items ≡ slice_set w.nodes.items n new → later.travelling.items ≡ w.travelling.items → EndsRunning a n thread w result later
     node_ends result new (inl there) later geometry nodes travelling = inl (record { none = there.none; places = places (tried result) new there.places.steps later geometry nodes travelling })
     node_ends result new (inr it) later geometry nodes travelling =

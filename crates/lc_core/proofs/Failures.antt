@@ -12,7 +12,7 @@ use Rattle.lc_model.specs.declared.reply.Reply.TheVariants.{Stepped, Recovered}
 use Rattle.lc_record.specs.declared.geometry.Geometry.{Geometry}
 use Rattle.lc_recover.specs.Reads.{area_count}
 use Rattle.lc_recover.specs.Recovery.{Recovering, IsMergeNext, MakesItsCall}
-use Rattle.lc_recover.specs.Stage.{OneCall}
+use Rattle.lc_recover.specs.RecoveryPhase.{OneCall}
 use Rattle.lc_recover.specs.Steps.{first_steps}
 use Rattle.lc_recover.specs.declared.fault.RecoverFault.{RecoverFault}
 use Rattle.lc_recover.specs.declared.fault.RecoverFault.TheVariants.{BadGeometry, Gap, Twice, OutOfSegment, DeviceFault as Failed, NoMemory}
@@ -26,10 +26,10 @@ use Rattle.lc_core.specs.Pages.{areas_of}
 use Rattle.lc_core.specs.Places.{same_map_set}
 use Rattle.lc_core.specs.Recovering.{ComesUp, RepliesTo}
 use Rattle.lc_core.specs.declared.log.Log.{Log}
-use Rattle.lc_core.specs.declared.node.Node.{Node}
+use Rattle.lc_core.specs.declared.node_state.NodeState.{NodeState}
 use Rattle.lc_core.specs.declared.pages.Pages.{Pages}
-use Rattle.lc_core.specs.declared.phase.Phase.{Phase}
-use Rattle.lc_core.specs.declared.phase.Phase.TheVariants.{Down, Up}
+use Rattle.lc_core.specs.declared.world_phase.WorldPhase.{WorldPhase}
+use Rattle.lc_core.specs.declared.world_phase.WorldPhase.TheVariants.{Down, Up}
 use Rattle.lc_core.specs.declared.running.Running.{Running}
 use Rattle.lc_core.specs.declared.up.Up.{Up as Rising}
 use Rattle.lc_core.proofs.Recoveries.{if_ok_at}
@@ -105,18 +105,18 @@ module _ {D : Type 0} (a : Ghosts D) where
     down_counts (Ok HasRecovered) answer replies calls = if_ok_at answer _ _ replies (no_faults Recovered _ _ refl (step_made HasRecovered calls))
     down_counts (Err fault) answer replies calls = fault_counts fault answer replies calls
 
-    pub phase_counts : {E : Type 0} (old : Phase D a) → old ≡ Down r → (result : Result Progress RecoverFault) (answer : Result Reply E) → RepliesTo result answer → StepCalls r new result
+    pub phase_counts : {E : Type 0} (old : WorldPhase D a) → old ≡ Down r → (result : Result Progress RecoverFault) (answer : Result Reply E) → RepliesTo result answer → StepCalls r new result
         → IfOk answer (λ reply. CountsPhase a old reply (Down new))
     phase_counts old is result answer replies calls =
-        subst (λ (p : Phase D a). IfOk answer (λ reply. CountsPhase a p reply (Down new))) (sym is) (down_counts result answer replies calls)
+        subst (λ (p : WorldPhase D a). IfOk answer (λ reply. CountsPhase a p reply (Down new))) (sym is) (down_counts result answer replies calls)
 
   -- want of memory
-  pub down_failures : (old : Phase D a) (r new : Recovering D) → old ≡ Down r → new ≡ r → phase_failures a (Down new) ≡ phase_failures a old
+  pub down_failures : (old : WorldPhase D a) (r new : Recovering D) → old ≡ Down r → new ≡ r → phase_failures a (Down new) ≡ phase_failures a old
   down_failures old r new is same = ap (λ (v : Recovering D). area_failures a v.areas) same ∙ ap (phase_failures a) (sym is)
 
   -- What has come up
 
-  fronts : (nodes : List (Node D a)) (areas : List D) → ((n : ℕ) (node : Node D a) → slice_get nodes n ≡ Some node → area_of a node.journal.log ≡ slice_get areas n)
+  fronts : (nodes : List (NodeState D a)) (areas : List D) → ((n : ℕ) (node : NodeState D a) → slice_get nodes n ≡ Some node → area_of a node.journal.log ≡ slice_get areas n)
       → length nodes ≤ length areas → log_failures a (logs_of a nodes) ≡ area_failures a (take (length nodes) areas)
   fronts [] areas each few = refl
   fronts (node ∷ nodes) [] each few = absurd (omega (arith, few))
@@ -125,8 +125,8 @@ module _ {D : Type 0} (a : Ghosts D) where
       ∙ ap (λ (os : List (Option ℕ)). failures_at area ∷ os) (fronts nodes areas (λ n other got. each (suc n) other got) (omega (arith, few)))
 
   -- those of the logs and those of the segments after them are those of all areas
-  pub beside_segments : (nodes : List (Node D a)) (segments : List (Pages D a)) (areas : List D) (n : ℕ)
-      → ((k : ℕ) (node : Node D a) → slice_get nodes k ≡ Some node → area_of a node.journal.log ≡ slice_get areas k) → areas_of a segments ≡ drop n areas → length nodes ≡ n → n ≤ length areas
+  pub beside_segments : (nodes : List (NodeState D a)) (segments : List (Pages D a)) (areas : List D) (n : ℕ)
+      → ((k : ℕ) (node : NodeState D a) → slice_get nodes k ≡ Some node → area_of a node.journal.log ≡ slice_get areas k) → areas_of a segments ≡ drop n areas → length nodes ≡ n → n ≤ length areas
       → log_failures a (logs_of a nodes) ++ area_failures a (areas_of a segments) ≡ area_failures a areas
   beside_segments nodes segments areas n each are number few =
       ap (λ (os : List (Option ℕ)). os ++ area_failures a (areas_of a segments))
@@ -141,10 +141,10 @@ module _ {D : Type 0} (a : Ghosts D) where
       beside_segments up.running.nodes.items up.segments.items r.areas r.geometry.nodes came.log_areas came.segments
       (sym up.running.nodes.ok.0 ∙ up.running.all_nodes ∙ ap (λ (g : Geometry). g.nodes) came.same_geometry) (omega (arith, counted))
 
-  pub risen_counts : (old : Phase D a) (r new : Recovering D) → old ≡ Down r → (result : Result Progress RecoverFault) → ((fault : RecoverFault) → result ≡ Err fault → ⊥) → StepCalls r new result
+  pub risen_counts : (old : WorldPhase D a) (r new : Recovering D) → old ≡ Down r → (result : Result Progress RecoverFault) → ((fault : RecoverFault) → result ≡ Err fault → ⊥) → StepCalls r new result
       → (up : Rising D a) → ComesUp a new up → CountsPhase a old Recovered (Up up)
   risen_counts old r new is (Ok p) well calls up came =
-      subst (λ (q : Phase D a). CountsPhase a q Recovered (Up up)) (sym is) (no_faults Recovered _ _ refl (up_failures new up came ∙ step_made r new p calls))
+      subst (λ (q : WorldPhase D a). CountsPhase a q Recovered (Up up)) (sym is) (no_faults Recovered _ _ refl (up_failures new up came ∙ step_made r new p calls))
   risen_counts old r new is (Err fault) well calls up came = absurd (well fault refl)
 
   -- A step of a store that is up

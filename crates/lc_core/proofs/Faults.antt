@@ -16,7 +16,7 @@ use Rattle.lc_core.specs.Log.{CallsOnce, IsCalled, area_of, is_failed}
 use Rattle.lc_core.specs.Places.{same_map_set}
 use Rattle.lc_core.specs.declared.log.Log.{Log}
 use Rattle.lc_core.specs.declared.log.Log.TheVariants.{Idle, Written, Synced, Opened, Sealed, Closing, Emptied, Failed, Torn, Taken}
-use Rattle.lc_core.specs.declared.node.Node.{Node}
+use Rattle.lc_core.specs.declared.node_state.NodeState.{NodeState}
 use Rattle.lc_core.specs.declared.running.Running.{Running}
 use Rattle.lc_core.proofs.OwnReplies.{own_known, own_no_fault}
 
@@ -88,16 +88,16 @@ module _ {D : Type 0} (a : Ghosts D) where
   has_area Taken up = absurd (true≢false up)
 
   -- what changes a node, and not its log, changes no log
-  pub logs_stay : (nodes : List (Node D a)) (n : ℕ) (old new : Node D a) → slice_get nodes n ≡ Some old → new.journal.log ≡ old.journal.log → logs_of a (slice_set nodes n new) ≡ logs_of a nodes
-  logs_stay nodes n old new at same = same_map_set (λ (node : Node D a). node.journal.log) nodes n old new at same
+  pub logs_stay : (nodes : List (NodeState D a)) (n : ℕ) (old new : NodeState D a) → slice_get nodes n ≡ Some old → new.journal.log ≡ old.journal.log → logs_of a (slice_set nodes n new) ≡ logs_of a nodes
+  logs_stay nodes n old new at same = same_map_set (λ (node : NodeState D a). node.journal.log) nodes n old new at same
 
   -- what leaves a node's device as it is does so for all
-  pub same_kinds_at : (nodes : List (Node D a)) (n : ℕ) (old new : Node D a) → slice_get nodes n ≡ Some old → kind_of a new.journal.log ≡ kind_of a old.journal.log
+  pub same_kinds_at : (nodes : List (NodeState D a)) (n : ℕ) (old new : NodeState D a) → slice_get nodes n ≡ Some old → kind_of a new.journal.log ≡ kind_of a old.journal.log
       → log_kinds a (logs_of a (slice_set nodes n new)) ≡ log_kinds a (logs_of a nodes)
   same_kinds_at nodes n old new at same =
-      ap (log_kinds a) (map-set (λ (node : Node D a). node.journal.log) nodes n new)
+      ap (log_kinds a) (map-set (λ (node : NodeState D a). node.journal.log) nodes n new)
       ∙ same_map_set (kind_of a) (logs_of a nodes) n old.journal.log new.journal.log
-      (slice_get-map (λ (node : Node D a). node.journal.log) nodes n ∙ ap (option_map (λ (node : Node D a). node.journal.log)) at) same
+      (slice_get-map (λ (node : NodeState D a). node.journal.log) nodes n ∙ ap (option_map (λ (node : NodeState D a). node.journal.log)) at) same
 
   pub same_devices : (old new : Running D a) → SameLogs a old new → SameDevices a old new
   same_devices old new same = record { geometry = same.geometry; kinds = ap (log_kinds a) same.logs }
@@ -124,13 +124,13 @@ module _ {D : Type 0} (a : Ghosts D) where
   }
 
   -- a step of a flush at one node
-  module _ (nodes : List (Node D a)) (n : ℕ) (old new : Node D a) (calls : Bool) (reply : Reply) (at : slice_get nodes n ≡ Some old)
+  module _ (nodes : List (NodeState D a)) (n : ℕ) (old new : NodeState D a) (calls : Bool) (reply : Reply) (at : slice_get nodes n ≡ Some old)
       (tells : TellsFault a calls reply old.journal.log new.journal.log) where
     log_at : slice_get (logs_of a nodes) n ≡ Some old.journal.log
-    log_at = slice_get-map (λ (node : Node D a). node.journal.log) nodes n ∙ ap (option_map (λ (node : Node D a). node.journal.log)) at
+    log_at = slice_get-map (λ (node : NodeState D a). node.journal.log) nodes n ∙ ap (option_map (λ (node : NodeState D a). node.journal.log)) at
 
     logs_are : logs_of a (slice_set nodes n new) ≡ slice_set (logs_of a nodes) n new.journal.log
-    logs_are = map-set (λ (node : Node D a). node.journal.log) nodes n new
+    logs_are = map-set (λ (node : NodeState D a). node.journal.log) nodes n new
 
     told : (b : Bool) → is_fault reply ≡ b → failures_of a new.journal.log ≡ (if b then option_map (λ (count : ℕ). count + 1) (failures_of a old.journal.log) else failures_of a old.journal.log)
     told b is = subst (λ (v : Bool). failures_of a new.journal.log ≡ (if v then option_map (λ (count : ℕ). count + 1) (failures_of a old.journal.log) else failures_of a old.journal.log)) is tells.failures

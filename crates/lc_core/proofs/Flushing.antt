@@ -17,7 +17,7 @@ use Rattle.lc_model.specs.declared.reply.Reply.TheVariants.{Stepped, Acked, Noth
 use Rattle.lc_model.proofs.Seats.{update-own, update-other}
 use Rattle.lc_model.proofs.Rows.{flush-nothing, flush-last, flush-last_fault}
 use Rattle.lc_core.specs.Numbers.{Numbers}
-use Rattle.lc_core.specs.Records.{Spelled, Kept, all_words, front_of, span_of}
+use Rattle.lc_core.specs.Records.{Spelled, KeptRecords, all_words, front_of, span_of}
 use Rattle.lc_core.specs.declared.log.Log.{Log}
 use Rattle.lc_core.specs.declared.log.Log.TheVariants.{Idle, Written, Synced, Opened, Sealed, Closing, Emptied, Failed, Torn, Taken}
 use Rattle.lc_core.specs.Log.{Stands, StepsTo, is_idle, is_failed, is_sealed, HasReset}
@@ -39,7 +39,7 @@ same_words (r ∷ rs) (q ∷ qs) is =
 pub part_of : {A B : Type 0} (f : A → B) (n place : ℕ) (xs : List A) → map f (take n (drop place xs)) ≡ take n (drop place (map f xs))
 part_of f n place xs = sym (take-map f n (drop place xs)) ∙ ap (take n) (sym (drop-map f place xs))
 
-pub span_joined : (records : List Record) (k : Kept) (from to : ℕ) → map (λ (r : Spelled). r.words) k.records ≡ map spelling (drop k.before records)
+pub span_joined : (records : List Record) (k : KeptRecords) (from to : ℕ) → map (λ (r : Spelled). r.words) k.records ≡ map spelling (drop k.before records)
     → k.before ≤ from → from ≤ to → span_of k from to ≡ joined (drop from (take to records))
 span_joined records k from to is kept order =
     let n : ℕ = to - from in
@@ -51,7 +51,7 @@ span_joined records k from to is kept order =
     ∙ ap (λ (l : List Record). joined (take n l)) (drop-drop place k.before records ∙ ap (λ (j : ℕ). drop j records) there)
     ∙ ap joined (sym (drop-take from n records) ∙ ap (λ (j : ℕ). drop from (take j records)) all)
 
-front_within : (records : List Record) (k : Kept) → map (λ (r : Spelled). r.words) k.records ≡ map spelling (drop k.before records)
+front_within : (records : List Record) (k : KeptRecords) → map (λ (r : Spelled). r.words) k.records ≡ map spelling (drop k.before records)
     → k.before < front_of k → front_of k ≤ length records
 front_within records k is some =
     omega (
@@ -138,7 +138,7 @@ module _ {D : Type 0} (a : Ghosts D) where
   some_reply (Torn log) taken is = absurd cc
   some_reply Taken taken is = absurd cc
 
-  module _ (m : Setting) (node : ℕ) (s : State) (x : Numbers) (k : Kept) (dropped trimmed acked : ℕ) where
+  module _ (m : Setting) (node : ℕ) (s : State) (x : Numbers) (k : KeptRecords) (dropped trimmed acked : ℕ) where
     abbrev records : List Record
     records = records_of m s x.disks node
 

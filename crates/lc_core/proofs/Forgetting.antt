@@ -8,23 +8,23 @@ use Rattle.lc_model.specs.State.{Setting, State}
 use Rattle.lc_model.specs.Stored.{records_of}
 use Rattle.lc_core.specs.Journal.{FitsLog}
 use Rattle.lc_core.specs.Numbers.{Numbers}
-use Rattle.lc_core.specs.Records.{Kept, Spelled, all_words, count_of, front_of, marks_of, span_of}
+use Rattle.lc_core.specs.Records.{KeptRecords, Spelled, all_words, count_of, front_of, marks_of, span_of}
 use Rattle.lc_core.specs.declared.log.Log.{Log}
 use Rattle.lc_core.proofs.Flushing.{front_same}
 use Rattle.lc_core.proofs.Spans.{leading_drop, leading_le}
 
-abbrev pub forgotten : Kept → ℕ → Kept
+abbrev pub forgotten : KeptRecords → ℕ → KeptRecords
 forgotten k number = record { before = number; records = drop (number - k.before) k.records }
 
 -- what is asked for of these records is as before
-pub record IsForgotten (k later : Kept) (dropped acked taken : ℕ) : Type 0 where
+pub record IsForgotten (k later : KeptRecords) (dropped acked taken : ℕ) : Type 0 where
   pub count : count_of later ≡ count_of k
   pub front : front_of later ≡ front_of k
   pub stable : span_of later dropped acked ≡ span_of k dropped acked
   pub on_its_way : span_of later acked taken ≡ span_of k acked taken
   pub end : length (span_of later dropped (count_of later)) ≡ length (span_of k dropped (count_of k))
 
-module _ (k : Kept) (number : ℕ) (kept : k.before ≤ number) (closed : number ≤ front_of k) where
+module _ (k : KeptRecords) (number : ℕ) (kept : k.before ≤ number) (closed : number ≤ front_of k) where
   pub span_forgotten : (from to : ℕ) → number ≤ from → span_of (forgotten k number) from to ≡ span_of k from to
   span_forgotten from to behind =
       let same : (number - k.before) + (from - number) ≡ from - k.before = omega (arith, kept, behind) in

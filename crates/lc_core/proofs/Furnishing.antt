@@ -22,7 +22,7 @@ use Rattle.lc_core.specs.Seats.{AllRun, AreShort}
 use Rattle.lc_core.specs.Slots.{AreInPlace, Besides, besides_of}
 use Rattle.lc_core.specs.declared.here.Here.{Here}
 use Rattle.lc_core.specs.Seat.{Seat, Free}
-use Rattle.lc_core.specs.declared.slot.Slot.{Slot}
+use Rattle.lc_core.specs.declared.segment_copy.SegmentCopy.{SegmentCopy}
 use Rattle.lc_core.proofs.Seating.{nobody_runs}
 
 -- The pages of a segment, one after another
@@ -109,14 +109,14 @@ pub short_of : (g : Geometry) (here : Here) → AreOfSegments g here.slots.items
 short_of g here slots spare zero = (let none : length here.spare.bytes.items ≡ 0 = ap length spare in omega (arith, none))
 short_of g here slots spare (suc k) = at (slice_get here.slots.items k) refl
   where
-    at : (o : Option Slot) → slice_get here.slots.items k ≡ o → length (image_at here.spare o).bytes.items ≤ 262144
+    at : (o : Option SegmentCopy) → slice_get here.slots.items k ≡ o → length (image_at here.spare o).bytes.items ≤ 262144
     at None got = (let none : length here.spare.bytes.items ≡ 0 = ap length spare in omega (arith, none))
     at (Some slot) got = (let len = (slots k slot got).len in let few = g.few_pages in omega (arith, len, few))
 
 pub in_place_of : (g : Geometry) (here : Here) → AreOfSegments g here.slots.items → AreInPlace (besides_of here)
 in_place_of g here slots k b got = at (slice_get here.slots.items k) refl
   where
-    at : (o : Option Slot) → slice_get here.slots.items k ≡ o → (b.0.segment ≡ k + 1) × (b.1.segment ≡ k + 1) × (b.1.due ≡ [])
+    at : (o : Option SegmentCopy) → slice_get here.slots.items k ≡ o → (b.0.segment ≡ k + 1) × (b.1.segment ≡ k + 1) × (b.1.due ≡ [])
     at None is = absurd (none_some (sym (slice_get-map beside here.slots.items k ∙ ap (option_map beside) is) ∙ got))
       where
         none_some : None ≡ Some b → ⊥

@@ -19,7 +19,7 @@ use Rattle.lc_core.specs.Journal.{FitsLog}
 use Rattle.lc_core.specs.Numbers.{Numbers}
 use Rattle.lc_core.specs.Places.{same_some, get_set_same, get_set_other}
 use Rattle.lc_core.specs.Receives.{received_numbers, reply_of}
-use Rattle.lc_core.specs.Records.{Kept}
+use Rattle.lc_core.specs.Records.{KeptRecords}
 use Rattle.lc_core.specs.Settled.{number_of, deliver_answer, record_answer}
 use Rattle.lc_core.specs.Slots.{Besides, Awaits, FitsToken, FitsSlot, FitsSlots}
 use Rattle.lc_core.specs.Turns.{applied_to, held_back, numbers_after, put_number}
@@ -103,7 +103,7 @@ module _ (m : Setting) (s : State) (x : Numbers) (applied : ℕ → ℕ → ℕ)
     round = λ other differ. refl;
   }
 
-  log_gained : {D : Type 0} (a : Ghosts D) (n : ℕ) (log : Log D a) (kept : Kept) (dropped trimmed taken acked : ℕ)
+  log_gained : {D : Type 0} (a : Ghosts D) (n : ℕ) (log : Log D a) (kept : KeptRecords) (dropped trimmed taken acked : ℕ)
       → FitsLog a m n log kept dropped trimmed taken acked s x → FitsLog a m n log kept dropped trimmed taken acked s (gained x applied waiting)
   log_gained a n log kept dropped trimmed taken acked h = record {
     words = h.words;
@@ -124,7 +124,7 @@ logs_received m n s x segment number (Applied last) = logs_gained m s x (applied
 logs_received m n s x segment number HeldBack = logs_gained m s x x.applied (held_back x n segment (Some number)).waiting n
 logs_received m n s x segment number Ignored = logs_gained m s x x.applied x.waiting n
 
-pub log_received : {D : Type 0} (a : Ghosts D) (m : Setting) (n to : ℕ) (s : State) (x : Numbers) (segment number : ℕ) (answer : Received) (log : Log D a) (kept : Kept) (dropped trimmed taken acked : ℕ)
+pub log_received : {D : Type 0} (a : Ghosts D) (m : Setting) (n to : ℕ) (s : State) (x : Numbers) (segment number : ℕ) (answer : Received) (log : Log D a) (kept : KeptRecords) (dropped trimmed taken acked : ℕ)
     → FitsLog a m n log kept dropped trimmed taken acked s x → FitsLog a m n log kept dropped trimmed taken acked s (received_numbers x to segment number answer)
 log_received a m n to s x segment number (Applied last) log kept dropped trimmed taken acked =
     log_gained m s x (applied_to x to segment last).applied (applied_to x to segment last).waiting a n log kept dropped trimmed taken acked

@@ -28,9 +28,9 @@ use Rattle.lc_core.specs.LogWords.{log_area}
 use Rattle.lc_core.specs.Places.{same_some}
 use Rattle.lc_core.specs.Recovering.{ComesUp, RepliesTo}
 use Rattle.lc_core.specs.Stops.{StopsAll}
-use Rattle.lc_core.specs.declared.node.Node.{Node}
-use Rattle.lc_core.specs.declared.phase.Phase.{Phase}
-use Rattle.lc_core.specs.declared.phase.Phase.TheVariants.{Down, Up, Taken}
+use Rattle.lc_core.specs.declared.node_state.NodeState.{NodeState}
+use Rattle.lc_core.specs.declared.world_phase.WorldPhase.{WorldPhase}
+use Rattle.lc_core.specs.declared.world_phase.WorldPhase.TheVariants.{Down, Up, Taken}
 use Rattle.lc_core.specs.declared.up.Up.{Up as Rising}
 use Rattle.lc_core.proofs.Devices.{log_area_of}
 use Rattle.lc_core.proofs.Opening.{log_area as area_at}
@@ -68,39 +68,39 @@ replies_known (Err NoMemory) answer replies = IfOk-from_err answer _ replies
 
 module _ {D : Type 0} (a : Ghosts D) where
   -- what goes for each store, whatever it is
-  any_outside : (phase : Phase D a) (event : Event) (reply : Reply) → ((g : Geometry) → is_known g event ≡ true) → is_unknown reply ≡ false → RefusesOutside a phase event reply
+  any_outside : (phase : WorldPhase D a) (event : Event) (reply : Reply) → ((g : Geometry) → is_known g event ≡ true) → is_unknown reply ≡ false → RefusesOutside a phase event reply
   any_outside (Down r) event reply known plain = not_unknown reply plain
   any_outside (Up up) event reply known plain = refuses_known up.running.geometry event reply (known up.running.geometry) plain
   any_outside Taken event reply known plain = not_unknown reply plain
 
-  pub recovers_outside : (phase : Phase D a) (event : Event) (reply : Reply) → event ≡ RecoverStep → is_unknown reply ≡ false → RefusesOutside a phase event reply
+  pub recovers_outside : (phase : WorldPhase D a) (event : Event) (reply : Reply) → event ≡ RecoverStep → is_unknown reply ≡ false → RefusesOutside a phase event reply
   recovers_outside phase event reply is plain = any_outside phase event reply (λ g. ap (is_known g) is) plain
 
-  pub stops_outside : (phase : Phase D a) (event : Event) (choices : List (List Choice)) (reply : Reply) → event ≡ Stop choices → reply ≡ IsDown → RefusesOutside a phase event reply
+  pub stops_outside : (phase : WorldPhase D a) (event : Event) (choices : List (List Choice)) (reply : Reply) → event ≡ Stop choices → reply ≡ IsDown → RefusesOutside a phase event reply
   stops_outside phase event choices reply is down = any_outside phase event reply (λ g. ap (is_known g) is) (ap is_unknown down)
 
-  pub up_outside : (phase : Phase D a) (up : Rising D a) (event : Event) (reply : Reply) → phase ≡ Up up → RefusesUnknown up.running.geometry event reply → RefusesOutside a phase event reply
-  up_outside phase up event reply is refuses = subst (λ (p : Phase D a). RefusesOutside a p event reply) (sym is) refuses
+  pub up_outside : (phase : WorldPhase D a) (up : Rising D a) (event : Event) (reply : Reply) → phase ≡ Up up → RefusesUnknown up.running.geometry event reply → RefusesOutside a phase event reply
+  up_outside phase up event reply is refuses = subst (λ (p : WorldPhase D a). RefusesOutside a p event reply) (sym is) refuses
 
-  pub down_outside : (phase : Phase D a) (event : Event) (reply : Reply) → ((up : Rising D a) → phase ≡ Up up → ⊥) → is_unknown reply ≡ false → RefusesOutside a phase event reply
+  pub down_outside : (phase : WorldPhase D a) (event : Event) (reply : Reply) → ((up : Rising D a) → phase ≡ Up up → ⊥) → is_unknown reply ≡ false → RefusesOutside a phase event reply
   down_outside (Down r) event reply other plain = not_unknown reply plain
   down_outside (Up up) event reply other plain = absurd (other up refl)
   down_outside Taken event reply other plain = not_unknown reply plain
 
   -- The geometry
 
-  pub up_geometry : (phase : Phase D a) (up new : Rising D a) → phase ≡ Up up → new.running.geometry ≡ up.running.geometry → phase_geometry a (Up new) ≡ phase_geometry a phase
+  pub up_geometry : (phase : WorldPhase D a) (up new : Rising D a) → phase ≡ Up up → new.running.geometry ≡ up.running.geometry → phase_geometry a (Up new) ≡ phase_geometry a phase
   up_geometry phase up new is same = ap (λ (g : Geometry). Some g) same ∙ ap (phase_geometry a) (sym is)
 
-  pub down_geometry : (phase : Phase D a) (r new : Recovering D) → phase ≡ Down r → new.geometry ≡ r.geometry → phase_geometry a (Down new) ≡ phase_geometry a phase
+  pub down_geometry : (phase : WorldPhase D a) (r new : Recovering D) → phase ≡ Down r → new.geometry ≡ r.geometry → phase_geometry a (Down new) ≡ phase_geometry a phase
   down_geometry phase r new is same = ap (λ (g : Geometry). Some g) same ∙ ap (phase_geometry a) (sym is)
 
-  pub risen_geometry : (phase risen : Phase D a) (r new : Recovering D) (up : Rising D a) → phase ≡ Down r → new.geometry ≡ r.geometry → risen ≡ Up up → ComesUp a new up
+  pub risen_geometry : (phase risen : WorldPhase D a) (r new : Recovering D) (up : Rising D a) → phase ≡ Down r → new.geometry ≡ r.geometry → risen ≡ Up up → ComesUp a new up
       → phase_geometry a risen ≡ phase_geometry a phase
   risen_geometry phase risen r new up is same rises came =
       ap (phase_geometry a) rises ∙ ap (λ (g : Geometry). Some g) (came.same_geometry ∙ same) ∙ ap (phase_geometry a) (sym is)
 
-  pub stops_geometry : (old new : Phase D a) → StopsAll a old new → phase_geometry a new ≡ phase_geometry a old
+  pub stops_geometry : (old new : WorldPhase D a) → StopsAll a old new → phase_geometry a new ≡ phase_geometry a old
   stops_geometry (Down r) new stops = ap (phase_geometry a) stops.recovers ∙ ap (λ (g : Geometry). Some g) stops.were.0
   stops_geometry (Up up) new stops = ap (phase_geometry a) stops.recovers ∙ ap (λ (g : Geometry). Some g) stops.were.0
   stops_geometry Taken new stops = ap (phase_geometry a) stops
@@ -121,22 +121,22 @@ module _ {D : Type 0} (a : Ghosts D) where
   up_nodes : (up : Rising D a) (node : ℕ) → is_some (log_area a (Up up) node) ≡ is_node up.running.geometry node
   up_nodes up node =
       let nodes = up.running.nodes in
-      let its_log : Option (Node D a) → Option D = λ o. option_and_then (λ (its : Node D a). area_of a its.journal.log) o in
+      let its_log : Option (NodeState D a) → Option D = λ o. option_and_then (λ (its : NodeState D a). area_of a its.journal.log) o in
       elim (cases_lt node up.running.geometry.nodes) [
         | inl few ↦
             (let its = get-some nodes.items node (omega (arith, few, nodes.ok.0, up.running.all_nodes)) in
             let area = log_area_of a (8 * (up.running.geometry.words + 1)) nodes.items up.logs node its.0 its.1 in
-            ap (λ (o : Option (Node D a)). is_some (its_log o)) its.1 ∙ ap (λ (o : Option D). is_some o) area.1 ∙ sym (lt-ltb node up.running.geometry.nodes few))
+            ap (λ (o : Option (NodeState D a)). is_some (its_log o)) its.1 ∙ ap (λ (o : Option D). is_some o) area.1 ∙ sym (lt-ltb node up.running.geometry.nodes few))
         | inr past ↦
-            ap (λ (o : Option (Node D a)). is_some (its_log o)) (slice_get_past nodes.items node (omega (arith, past, nodes.ok.0, up.running.all_nodes)))
+            ap (λ (o : Option (NodeState D a)). is_some (its_log o)) (slice_get_past nodes.items node (omega (arith, past, nodes.ok.0, up.running.all_nodes)))
             ∙ sym (le-ltb node up.running.geometry.nodes past)
       ]
 
-  pub nodes_down : (phase : Phase D a) (r : Recovering D) (node : ℕ) → phase ≡ Down r → is_some (log_area a (Down r) node) ≡ is_node r.geometry node
+  pub nodes_down : (phase : WorldPhase D a) (r : Recovering D) (node : ℕ) → phase ≡ Down r → is_some (log_area a (Down r) node) ≡ is_node r.geometry node
       → ForSome (phase_geometry a phase) (λ g. is_some (log_area a phase node) ≡ is_node g node)
-  nodes_down phase r node is its = subst (λ (p : Phase D a). ForSome (phase_geometry a p) (λ g. is_some (log_area a p node) ≡ is_node g node)) (sym is)
+  nodes_down phase r node is its = subst (λ (p : WorldPhase D a). ForSome (phase_geometry a p) (λ g. is_some (log_area a p node) ≡ is_node g node)) (sym is)
       (λ g same. its ∙ ap (λ (h : Geometry). is_node h node) (same_some r.geometry g same))
 
-  pub nodes_up : (phase : Phase D a) (up : Rising D a) (node : ℕ) → phase ≡ Up up → ForSome (phase_geometry a phase) (λ g. is_some (log_area a phase node) ≡ is_node g node)
-  nodes_up phase up node is = subst (λ (p : Phase D a). ForSome (phase_geometry a p) (λ g. is_some (log_area a p node) ≡ is_node g node)) (sym is)
+  pub nodes_up : (phase : WorldPhase D a) (up : Rising D a) (node : ℕ) → phase ≡ Up up → ForSome (phase_geometry a phase) (λ g. is_some (log_area a phase node) ≡ is_node g node)
+  nodes_up phase up node is = subst (λ (p : WorldPhase D a). ForSome (phase_geometry a p) (λ g. is_some (log_area a p node) ≡ is_node g node)) (sym is)
       (λ g same. up_nodes up node ∙ ap (λ (h : Geometry). is_node h node) (same_some up.running.geometry g same))

@@ -15,7 +15,7 @@ use Rattle.lc_core.specs.Desk.{FitsSeat, FitsDesk}
 use Rattle.lc_core.specs.Follows.{FitsJournal, SameButLog}
 use Rattle.lc_core.specs.FollowsDesk.{SameButOpen}
 use Rattle.lc_core.specs.Here.{the_images}
-use Rattle.lc_core.specs.Node.{FitsNode, GoesOn}
+use Rattle.lc_core.specs.NodeState.{FitsNode, GoesOn}
 use Rattle.lc_core.specs.Numbers.{Numbers}
 use Rattle.lc_core.specs.Settled.{Settled, open_answer}
 use Rattle.lc_core.specs.Slots.{FitsSlots, besides_of}
@@ -23,7 +23,7 @@ use Rattle.lc_core.specs.Turns.{Turns}
 use Rattle.lc_core.specs.declared.desk.Desk.{Desk}
 use Rattle.lc_core.specs.declared.here.Here.{Here}
 use Rattle.lc_core.specs.declared.journal.Journal.{Journal}
-use Rattle.lc_core.specs.declared.node.Node.{Node}
+use Rattle.lc_core.specs.declared.node_state.NodeState.{NodeState}
 use Rattle.lc_core.specs.Seat.{Seat, Free, Open, Reserved}
 use Rattle.lc_core.proofs.OtherLogs.{logs_open, logs_logged}
 use Rattle.lc_core.proofs.Others.{beside_open, beside_logged}
@@ -103,7 +103,7 @@ module _ {D : Type 0} (a : Ghosts D) where
 
   -- where nothing changes
   pub stays_so : (m : Setting) (n : ℕ) (event : Event) (s : State) (x : Numbers) (reply : Reply) → Row m s event reply s → Settled m s x event reply → Turns m s x event reply x
-      → {new : Node D a} → FitsNode a m n new s x → GoesOn a m n event s x reply new
+      → {new : NodeState D a} → FitsNode a m n new s x → GoesOn a m n event s x reply new
   stays_so m n event s x reply row settled turns fits =
       let same : SameButOpen n s s = record { earlier = refl; history = refl; place = refl; phase = refl; ack = refl; halted = refl; flush = refl; running = λ other thread differ. refl } in
       record {
@@ -119,7 +119,7 @@ module _ {D : Type 0} (a : Ghosts D) where
       }
 
   module _ (m : Setting) (n : ℕ) (event : Event) (s : State) (x : Numbers) (reply : Reply) (after : State) (row : Row m s event reply after)
-      (settled : Settled m s x event reply) (turns : Turns m s x event reply x) (old : Node D a) (h : FitsNode a m n old s x) where
+      (settled : Settled m s x event reply) (turns : Turns m s x event reply x) (old : NodeState D a) (h : FitsNode a m n old s x) where
     -- by a change of the transactions
     pub by_desk : (new : Desk) → SameButOpen n s after → the_images.IsSameBeside old.desk.here new.here → FitsDesk m n new.here new.seats.items after
         → GoesOn a m n event s x reply (record { desk = new; journal = old.journal; known = old.known })

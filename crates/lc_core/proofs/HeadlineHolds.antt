@@ -14,7 +14,7 @@ use Rattle.lc_record.specs.Transaction.{IsWellFormed, Transaction, effects}
 use Rattle.lc_record.specs.declared.geometry.Geometry.{Geometry}
 use Rattle.lc_recover.specs.Reads.{AllMergeTo, AreHonest, AreImages, HaveLengths, store_of}
 use Rattle.lc_recover.proofs.OneStore.{reads_one, reads_so}
-use Rattle.lc_model.specs.Merge.{MergesTo, Store}
+use Rattle.lc_model.specs.Merge.{MergesTo, StoreText}
 use Rattle.lc_model.specs.Merging.{counted_all}
 use Rattle.lc_core.specs.Areas.{AreStopped}
 use Rattle.lc_model.specs.History.{Cut, kept, transactions, value}
@@ -44,8 +44,8 @@ use Rattle.lc_core.specs.Slots.{segment_to}
 use Rattle.lc_core.specs.Stops.{HasAreas}
 use Rattle.lc_core.specs.Turns.{Turns}
 use Rattle.lc_core.specs.World.{FitsPhase, FitsWorld}
-use Rattle.lc_core.specs.declared.phase.Phase.{Phase}
-use Rattle.lc_core.specs.declared.phase.Phase.TheVariants.{Down, Up, Taken}
+use Rattle.lc_core.specs.declared.world_phase.WorldPhase.{WorldPhase}
+use Rattle.lc_core.specs.declared.world_phase.WorldPhase.TheVariants.{Down, Up, Taken}
 use Rattle.lc_core.specs.declared.world.World.{World}
 use Rattle.lc_core.proofs.Bases.{Counts, counted_all-append, run_counts}
 use Rattle.lc_core.proofs.Devices.{log_area_of}
@@ -143,7 +143,7 @@ by_store : (g : Geometry) (images : List (List ℕ)) (content : Content) (number
 by_store g images content numbers merges = (store_of g images, reads_so g images, merges)
 
 of_store : (g : Geometry) (images : List (List ℕ)) (content : Content) (numbers : ℕ → ℕ) → MergeTo g images content numbers → MergesTo (store_of g images) content numbers
-of_store g images content numbers merges = subst (λ (store : Store). MergesTo store content numbers) (reads_one g images merges.0 merges.1) merges.2
+of_store g images content numbers merges = subst (λ (store : StoreText). MergesTo store content numbers) (reads_one g images merges.0 merges.1) merges.2
 
 merges_so : (m : Setting) (s : State) (x : Numbers) (numbers : ℕ → ℕ) → Counts numbers s x → (cut : Cut) (images : List (List ℕ))
     → MergesTo (store_of m.geometry images) (effects (s.earlier ++ kept s.history cut) m.start) (counted_all x.disks.numbers (kept s.history cut))
@@ -173,14 +173,14 @@ module _ {D : Type 0} (a : Ghosts D) where
 
   -- The areas of a store that fits
 
-  pub areas_there : (phase : Phase D a) (m : Setting) (s : State) (x : Numbers) → FitsPhase a m phase s x → (areas : List D) × HasAreas a phase m.geometry areas
+  pub areas_there : (phase : WorldPhase D a) (m : Setting) (s : State) (x : Numbers) → FitsPhase a m phase s x → (areas : List D) × HasAreas a phase m.geometry areas
   areas_there (Down r) m s x h = (r.areas, (sym h.geometry_is, refl))
   areas_there (Up up) m s x h =
       let all = all_areas a up in
       (all.0, (h.0.running.geometry_is, all.1))
   areas_there Taken m s x h = absurd h
 
-  up_as : (phase : Phase D a) (m : Setting) (s : State) (x : Numbers) → FitsPhase a m phase s x → stands_up a phase ≡ is_up s.phase
+  up_as : (phase : WorldPhase D a) (m : Setting) (s : State) (x : Numbers) → FitsPhase a m phase s x → stands_up a phase ≡ is_up s.phase
   up_as (Down r) m s x h = sym (ap is_up h.down)
   up_as (Up up) m s x h = sym (ap is_up h.0.running.up)
   up_as Taken m s x h = absurd h
@@ -190,11 +190,11 @@ module _ {D : Type 0} (a : Ghosts D) where
   failures_are [] = refl
   failures_are (area ∷ areas) = (let others = failures_are areas in omega (arith, others, sum_by-cons a.failures area areas))
 
-  failed_so : (phase : Phase D a) (m : Setting) (failures : ℕ) (areas : List D) → HasAreas a phase m.geometry areas → failures ≡ failures_in (phase_failures a phase) → sum_by a.failures areas ≡ failures
+  failed_so : (phase : WorldPhase D a) (m : Setting) (failures : ℕ) (areas : List D) → HasAreas a phase m.geometry areas → failures ≡ failures_in (phase_failures a phase) → sum_by a.failures areas ≡ failures
   failed_so phase m failures areas are counts = sym (failures_are areas) ∙ ap failures_in (sym (areas_failed a phase m.geometry areas are)) ∙ sym counts
 
   -- and what a stop leaves of them
-  area_left : (phase : Phase D a) (m : Setting) (s : State) (x : Numbers) (numbers : ℕ → ℕ) (failures : ℕ) → Counts numbers s x → failures ≡ failures_in (phase_failures a phase) → FitsPhase a m phase s x
+  area_left : (phase : WorldPhase D a) (m : Setting) (s : State) (x : Numbers) (numbers : ℕ → ℕ) (failures : ℕ) → Counts numbers s x → failures ≡ failures_in (phase_failures a phase) → FitsPhase a m phase s x
       → (areas : List D) → HasAreas a phase m.geometry areas → Leaves a m s numbers failures areas
   area_left (Down r) m s x numbers failures counts failed h areas are =
       let may = h.sound.down_cut h.cut h.down in
@@ -227,13 +227,13 @@ module _ {D : Type 0} (a : Ghosts D) where
   area_left Taken m s x numbers failures counts failed h areas are = absurd h
 
   -- the areas that a store has are of the geometry that it fits
-  geometry_of : (phase : Phase D a) (m : Setting) (s : State) (x : Numbers) (g : Geometry) (areas : List D) → FitsPhase a m phase s x → HasAreas a phase g areas → g ≡ m.geometry
+  geometry_of : (phase : WorldPhase D a) (m : Setting) (s : State) (x : Numbers) (g : Geometry) (areas : List D) → FitsPhase a m phase s x → HasAreas a phase g areas → g ≡ m.geometry
   geometry_of (Down r) m s x g areas h are = are.0 ∙ h.geometry_is
   geometry_of (Up up) m s x g areas h are = are.0 ∙ sym h.0.running.geometry_is
   geometry_of Taken m s x g areas h are = absurd h
 
   -- what is lent of a page is its part of the node's image
-  lent_shows : (phase : Phase D a) (m : Setting) (s : State) (x : Numbers) (node segment page : ℕ) (bytes : List ℕ) → FitsPhase a m phase s x → LendsPage a phase node segment page bytes
+  lent_shows : (phase : WorldPhase D a) (m : Setting) (s : State) (x : Numbers) (node segment page : ℕ) (bytes : List ℕ) → FitsPhase a m phase s x → LendsPage a phase node segment page bytes
       → bytes ≡ page_of (image_of m s x node segment) page
   lent_shows (Up up) m s x node segment page bytes h lends =
       let its = lends.0 in
@@ -252,7 +252,7 @@ module _ {D : Type 0} (a : Ghosts D) where
   lent_shows Taken m s x node segment page bytes h lends = absurd lends
 
   -- so it is of any store that fits
-  pub fits_leaves : (m : Setting) (s : State) (x : Numbers) (phase : Phase D a) (numbers : ℕ → ℕ) (g : Geometry) (areas : List D) → FitsPhase a m phase s x → Counts numbers s x → HasAreas a phase g areas
+  pub fits_leaves : (m : Setting) (s : State) (x : Numbers) (phase : WorldPhase D a) (numbers : ℕ → ℕ) (g : Geometry) (areas : List D) → FitsPhase a m phase s x → Counts numbers s x → HasAreas a phase g areas
       → (g ≡ m.geometry) × Leaves a m s numbers (sum_by a.failures areas) areas
   fits_leaves m s x phase numbers g areas h counts are =
       let same = geometry_of phase m s x g areas h are in

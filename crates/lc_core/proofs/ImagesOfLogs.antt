@@ -18,7 +18,7 @@ use Rattle.lc_core.specs.Journal.{FitsLog}
 use Rattle.lc_core.specs.Log.{Stands, HasReset, area_of}
 use Rattle.lc_core.specs.Numbers.{Numbers}
 use Rattle.lc_core.specs.Places.{same_some}
-use Rattle.lc_core.specs.Records.{Kept}
+use Rattle.lc_core.specs.Records.{KeptRecords}
 use Rattle.lc_core.specs.declared.log.Log.{Log}
 use Rattle.lc_core.specs.declared.log.Log.TheVariants.{Idle, Written, Synced, Opened, Sealed, Closing, Emptied, Failed, Torn, Taken}
 use Rattle.lc_core.proofs.Flushing.{more_stable}
@@ -72,7 +72,7 @@ module _ {D : Type 0} (a : Ghosts D) where
   leaves_one Taken area reset steps stable group is at stands = absurd stands
 
   -- so the records that are read of it are those that some cut leaves
-  pub log_cut : (m : Setting) (n : ℕ) (log : Log D a) (kept : Kept) (dropped trimmed taken acked : ℕ) (s : State) (x : Numbers) (area : D)
+  pub log_cut : (m : Setting) (n : ℕ) (log : Log D a) (kept : KeptRecords) (dropped trimmed taken acked : ℕ) (s : State) (x : Numbers) (area : D)
       → FitsLog a m n log kept dropped trimmed taken acked s x → dropped ≤ acked → acked ≤ taken → x.disks.resetting n ≡ nat_lt 0 (x.reset n)
       → area_of a log ≡ Some area → a.honest area ≡ true → (image : List ℕ) → IsImage (a.now area) (a.dirty area) image
       → (number : ℕ) × IsCutAt m s x.disks n (records_in (words_of image)) number

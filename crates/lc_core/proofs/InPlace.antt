@@ -34,9 +34,9 @@ use Rattle.lc_core.specs.declared.delivering.Delivery.TheVariants.{Next}
 use Rattle.lc_core.specs.declared.desk.Desk.{Desk}
 use Rattle.lc_core.specs.declared.here.Here.{Here}
 use Rattle.lc_core.specs.declared.journal.Journal.{Journal}
-use Rattle.lc_core.specs.declared.node.Node.{Node}
+use Rattle.lc_core.specs.declared.node_state.NodeState.{NodeState}
 use Rattle.lc_core.specs.declared.running.Running.{Running}
-use Rattle.lc_core.specs.declared.slot.Slot.{Slot}
+use Rattle.lc_core.specs.declared.segment_copy.SegmentCopy.{SegmentCopy}
 use Rattle.lc_core.proofs.Arrivals.{delivers, has_part, slot_within}
 use Rattle.lc_core.proofs.Away.{runs_away, short_at, stands_there, with_slot}
 use Rattle.lc_core.proofs.Caught.{Comes, comes_away}
@@ -48,7 +48,7 @@ use Rattle.lc_core.proofs.Onward.{stays_onward, whole_set}
 -- At the desk
 
 module _ (old mid : Desk) (segment : ℕ) (was : Picture) (lends : LendsImage segment old was mid) where
-  abbrev its : Slot
+  abbrev its : SegmentCopy
   its = lends.slot
 
   -- the slot is the same but for its image
@@ -56,7 +56,7 @@ module _ (old mid : Desk) (segment : ℕ) (was : Picture) (lends : LendsImage se
   lent_at = ap (λ (h : Here). slice_get h.slots.items (segment - 1)) lends.has.here ∙ get_set_same old.here.slots.items (segment - 1) its (record its { image = lends.other }) lends.has.at
 
   pub still_takes : (number : ℕ) → TakesAtOnce number its → ForSome (slice_get mid.here.slots.items (segment - 1)) (λ slot. TakesAtOnce number slot)
-  still_takes number takes slot got = subst (λ (z : Slot). TakesAtOnce number z) (same_some (record its { image = lends.other }) slot (sym lent_at ∙ got)) takes
+  still_takes number takes slot got = subst (λ (z : SegmentCopy). TakesAtOnce number z) (same_some (record its { image = lends.other }) slot (sym lent_at ∙ got)) takes
 
   -- what was taken out has no more bytes than a record can name
   pub lent_short : (image : Picture) → length image.bytes.items ≡ length was.bytes.items → length image.bytes.items ≤ 262144
@@ -66,7 +66,7 @@ module _ (old mid : Desk) (segment : ℕ) (was : Picture) (lends : LendsImage se
       omega (arith, few, own, long)
 
   module _ (new : Desk) (number : ℕ) (image : Picture) (answer : Received) (puts : PutsNext segment number image mid answer new) where
-    abbrev next : Slot
+    abbrev next : SegmentCopy
     next = record its { image = image; parts = counted its.parts number }
 
     same_slot : puts.slot ≡ record its { image = lends.other }
@@ -75,7 +75,7 @@ module _ (old mid : Desk) (segment : ℕ) (was : Picture) (lends : LendsImage se
     items_are : new.here.slots.items ≡ slice_set old.here.slots.items (segment - 1) next
     items_are =
         ap (λ (h : Here). h.slots.items) puts.has.here
-        ∙ ap (λ (z : Slot). slice_set mid.here.slots.items (segment - 1) (record z { image = image; parts = counted z.parts number })) same_slot
+        ∙ ap (λ (z : SegmentCopy). slice_set mid.here.slots.items (segment - 1) (record z { image = image; parts = counted z.parts number })) same_slot
         ∙ ap (λ (h : Here). slice_set h.slots.items (segment - 1) next) lends.has.here
         ∙ set-set old.here.slots.items (segment - 1) (record its { image = lends.other }) next
 
@@ -98,7 +98,7 @@ module _ (old mid : Desk) (segment : ℕ) (was : Picture) (lends : LendsImage se
       there = stands_there old.here segment its first lends.has.at old.in_place
 
       passed : PassesOn number its.parts answer (counted its.parts number)
-      passed = subst (λ (z : Slot). PassesOn number z.parts answer (counted z.parts number)) same_slot puts.passes
+      passed = subst (λ (z : SegmentCopy). PassesOn number z.parts answer (counted z.parts number)) same_slot puts.passes
 
       abbrev between : Backlog
       between = (passed part refl).0
@@ -130,7 +130,7 @@ module _ (old mid : Desk) (segment : ℕ) (was : Picture) (lends : LendsImage se
             step.0,
             rw seats_are (desk_seen m node here new.here old.seats.items s (runs_away old.here (segment - 1) its next lends.has.at refl away old.seats.items old.runs)
                 (same_items here new.here items_are spare_is) step.1),
-            subst (λ (items : List Slot). FitsSlots m node (map beside items) s (received_numbers x node segment own answer)) (sym items_are) step.2,
+            subst (λ (items : List SegmentCopy). FitsSlots m node (map beside items) s (received_numbers x node segment own answer)) (sym items_are) step.2,
           )
 
 -- Among the nodes
@@ -141,54 +141,54 @@ read_there xs k old new got at is = is ∙ get_or_from_slice_get (slice_set xs k
 
 module _ {D : Type 0} (a : Ghosts D) where
   -- a node's journal is read while another desk stands at one of the nodes
-  record HasJournal (nodes : List (Node D a)) (k : ℕ) (got : Node D a) : Type 0 where
-    from : Node D a
+  record HasJournal (nodes : List (NodeState D a)) (k : ℕ) (got : NodeState D a) : Type 0 where
+    from : NodeState D a
     at : slice_get nodes k ≡ Some from
     same : got.journal ≡ from.journal
 
-  journal_there : (nodes : List (Node D a)) (n : ℕ) (old new : Node D a) → slice_get nodes n ≡ Some old → new.journal ≡ old.journal
-      → (k : ℕ) (got : Node D a) → k < length nodes → got ≡ slice_index_or (slice_set nodes n new) k got → HasJournal nodes k got
+  journal_there : (nodes : List (NodeState D a)) (n : ℕ) (old new : NodeState D a) → slice_get nodes n ≡ Some old → new.journal ≡ old.journal
+      → (k : ℕ) (got : NodeState D a) → k < length nodes → got ≡ slice_index_or (slice_set nodes n new) k got → HasJournal nodes k got
   journal_there nodes n old new at same k got within is = elim (cases_eq k n) [
     | inl own ↦ record {
       from = old;
       at = ap (slice_get nodes) own ∙ at;
-      same = ap (λ (w : Node D a). w.journal) (read_there nodes n old new got at (subst (λ (i : ℕ). got ≡ slice_index_or (slice_set nodes n new) i got) own is)) ∙ same;
+      same = ap (λ (w : NodeState D a). w.journal) (read_there nodes n old new got at (subst (λ (i : ℕ). got ≡ slice_index_or (slice_set nodes n new) i got) own is)) ∙ same;
     }
     | inr differ ↦
         let one = some_at nodes k within in
         record {
           from = one.0;
           at = one.1;
-          same = ap (λ (w : Node D a). w.journal) (is ∙ get_or_from_slice_get (slice_set nodes n new) k one.0 got (get_set_other nodes n k new differ ∙ one.1));
+          same = ap (λ (w : NodeState D a). w.journal) (is ∙ get_or_from_slice_get (slice_set nodes n new) k one.0 got (get_set_other nodes n k new differ ∙ one.1));
         }
   ]
 
   -- the slot of the receiver takes the record at once
-  pub ready_slot : (w : Running D a) (segment to own : ℕ) (node : Node D a) → IsReady a segment to own w → slice_get w.nodes.items to ≡ Some node
+  pub ready_slot : (w : Running D a) (segment to own : ℕ) (node : NodeState D a) → IsReady a segment to own w → slice_get w.nodes.items to ≡ Some node
       → ForSome (slice_get node.desk.here.slots.items (segment - 1)) (λ slot. TakesAtOnce own slot)
   ready_slot w segment to own node ready at slot got =
       let same_node : ready.node ≡ node = same_some ready.node node (sym ready.at ∙ at) in
-      let same : ready.slot ≡ slot = same_some ready.slot slot (sym ready.at_segment ∙ ap (λ (n : Node D a). slice_get n.desk.here.slots.items (segment - 1)) same_node ∙ got) in
-      subst (λ (z : Slot). TakesAtOnce own z) same ready.takes
+      let same : ready.slot ≡ slot = same_some ready.slot slot (sym ready.at_segment ∙ ap (λ (n : NodeState D a). slice_get n.desk.here.slots.items (segment - 1)) same_node ∙ got) in
+      subst (λ (z : SegmentCopy). TakesAtOnce own z) same ready.takes
 
   -- its image is taken out, and the receiver is looked at again
   pub record Placing (w : Running D a) (sender number segment to : ℕ) : Type 0 where
     pub known : (to < w.geometry.nodes) × (sender < w.geometry.nodes) × (1 ≤ segment) × (segment ≤ w.geometry.segments)
     pub own : ℕ
     pub brings : Brings a sender number segment to w (Next own)
-    pub node : Node D a
+    pub node : NodeState D a
     pub at : slice_get w.nodes.items to ≡ Some node
     pub mid : Desk
     pub was : Picture
     pub lends : LendsImage segment node.desk was mid
-    pub again : Node D a
+    pub again : NodeState D a
     pub again_is : again ≡ slice_index_or (slice_set w.nodes.items to (record { desk = mid; journal = node.journal; known = node.known })) to again
 
   module _ (w : Running D a) (sender number segment to : ℕ) (p : Placing w sender number segment to) where
-    abbrev bare : Node D a
+    abbrev bare : NodeState D a
     bare = record { desk = p.mid; journal = p.node.journal; known = p.node.known }
 
-    abbrev bare_nodes : List (Node D a)
+    abbrev bare_nodes : List (NodeState D a)
     bare_nodes = slice_set w.nodes.items to bare
 
     same_again : p.again ≡ bare
@@ -198,28 +198,28 @@ module _ {D : Type 0} (a : Ghosts D) where
     takes = ready_slot w segment to p.own p.node p.brings.0 p.at p.lends.slot p.lends.has.at
 
     pub again_takes : ForSome (slice_get p.again.desk.here.slots.items (segment - 1)) (λ slot. TakesAtOnce p.own slot)
-    again_takes = subst (λ (z : Node D a). ForSome (slice_get z.desk.here.slots.items (segment - 1)) (λ slot. TakesAtOnce p.own slot)) (sym same_again)
+    again_takes = subst (λ (z : NodeState D a). ForSome (slice_get z.desk.here.slots.items (segment - 1)) (λ slot. TakesAtOnce p.own slot)) (sym same_again)
         (still_takes p.node.desk p.mid segment p.was p.lends p.own takes)
 
     pub again_slots : segment ≤ vec_len p.again.desk.here.slots
     again_slots =
         let within = slot_within a w to segment p.node p.at p.known.3 in
-        let slots : vec_len p.again.desk.here.slots ≡ vec_len p.node.desk.here.slots = ap (λ (z : Node D a). vec_len z.desk.here.slots) same_again ∙ ap (λ (h : Here). vec_len h.slots) p.lends.has.here in
+        let slots : vec_len p.again.desk.here.slots ≡ vec_len p.node.desk.here.slots = ap (λ (z : NodeState D a). vec_len z.desk.here.slots) same_again ∙ ap (λ (h : Here). vec_len h.slots) p.lends.has.here in
         omega (arith, within, slots)
 
     -- the image is put in its place
     module _ (image : Picture) (new : Desk) (answer : Received) (puts : PutsNext segment p.own image p.again.desk answer new) where
-      abbrev last : Node D a
+      abbrev last : NodeState D a
       last = record { desk = new; journal = p.node.journal; known = p.node.known }
 
-      abbrev last_nodes : List (Node D a)
+      abbrev last_nodes : List (NodeState D a)
       last_nodes = slice_set bare_nodes to (record { desk = new; journal = p.again.journal; known = p.again.known })
 
       nodes_are : last_nodes ≡ slice_set w.nodes.items to last
-      nodes_are = ap (λ (z : Node D a). slice_set bare_nodes to (record { desk = new; journal = z.journal; known = z.known })) same_again ∙ set-set w.nodes.items to bare last
+      nodes_are = ap (λ (z : NodeState D a). slice_set bare_nodes to (record { desk = new; journal = z.journal; known = z.known })) same_again ∙ set-set w.nodes.items to bare last
 
       placed : PutsNext segment p.own image p.mid answer new
-      placed = subst (λ (z : Node D a). PutsNext segment p.own image z.desk answer new) same_again puts
+      placed = subst (λ (z : NodeState D a). PutsNext segment p.own image z.desk answer new) same_again puts
 
       pub last_whole : AreWhole a w.geometry last_nodes
       last_whole = subst (λ nodes. AreWhole a w.geometry nodes) (sym nodes_are)
@@ -230,7 +230,7 @@ module _ {D : Type 0} (a : Ghosts D) where
       pub last_logs : logs_of a last_nodes ≡ logs_of a w.nodes.items
       last_logs = ap (logs_of a) nodes_are ∙ logs_stay a w.nodes.items to p.node last p.at refl
 
-      pub last_onward : (reply : Reply) → reply ≡ reply_of answer → (from : Node D a) → from ≡ slice_index_or bare_nodes sender from
+      pub last_onward : (reply : Reply) → reply ≡ reply_of answer → (from : NodeState D a) → from ≡ slice_index_or bare_nodes sender from
           → LaysFound a from.journal number segment p.was.bytes.items image.bytes.items → image.holders ≡ p.was.holders
           → (m : Setting) (s : State) (x : Numbers) → FitsRunning a m w s x → common_refusal m.geometry s (Deliver sender number segment to) ≡ None
           → Onward a m (Deliver sender number segment to) s x reply w.geometry last_nodes w.travelling.items

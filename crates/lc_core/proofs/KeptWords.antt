@@ -11,13 +11,13 @@ use Rattle.lc_log.proofs.InPlaceLemmas.{records_text}
 use Rattle.lc_log.proofs.LogLemmas.{joined-append, one_text-by}
 use Rattle.lc_log.proofs.WalkLemmas.{Found, found_all}
 use Rattle.lc_core.specs.Kept.{closed_record, kept_behind}
-use Rattle.lc_core.specs.Records.{Kept, Spelled, count_of}
+use Rattle.lc_core.specs.Records.{KeptRecords, Spelled, count_of}
 
 -- one more
-pub one_behind : (rs : List Record) (r : Record) (words : List ℕ) (old now new : Kept) → words ≡ spelling r → now ≡ kept_behind rs old → new ≡ record now { records = now.records ++ record { words = words; closed = true } ∷ [] }
+pub one_behind : (rs : List Record) (r : Record) (words : List ℕ) (old now new : KeptRecords) → words ≡ spelling r → now ≡ kept_behind rs old → new ≡ record now { records = now.records ++ record { words = words; closed = true } ∷ [] }
     → new ≡ kept_behind (rs ++ r ∷ []) old
 one_behind rs r words old now new spelled is next =
-    next ∙ ap (λ (k : Kept). record k { records = k.records ++ record { words = words; closed = true } ∷ [] }) is
+    next ∙ ap (λ (k : KeptRecords). record k { records = k.records ++ record { words = words; closed = true } ∷ [] }) is
     ∙ ap (λ (ws : List ℕ). record old { records = old.records ++ map closed_record rs ++ record { words = ws; closed = true } ∷ [] }) spelled
     ∙ ap (λ (l : List Spelled). record old { records = l }) (append_assoc old.records (map closed_record rs) (closed_record r ∷ []) ∙ ap (λ (l : List Spelled). old.records ++ l) (sym (map-append closed_record rs (r ∷ []))))
 
@@ -44,7 +44,7 @@ pub found_whole : (words : List ℕ) (found : List (ℕ × Record)) (end : ℕ) 
 found_whole words found end rs f none text = one_text-by words (map (λ x. x.1) found) rs (found_all words found end f none).text text
 
 -- one more is found and kept
-pub with_one_more : (found : List (ℕ × Record)) (place : ℕ) (r : Record) (words : List ℕ) (old now new : Kept) → words ≡ spelling r → now ≡ kept_behind (map (λ x. x.1) found) old
+pub with_one_more : (found : List (ℕ × Record)) (place : ℕ) (r : Record) (words : List ℕ) (old now new : KeptRecords) → words ≡ spelling r → now ≡ kept_behind (map (λ x. x.1) found) old
     → new ≡ record now { records = now.records ++ record { words = words; closed = true } ∷ [] } → new ≡ kept_behind (map (λ x. x.1) (found ++ (place, r) ∷ [])) old
 with_one_more found place r words old now new spelled is next =
     one_behind (map (λ x. x.1) found) r words old now new spelled is next

@@ -5,8 +5,8 @@ use Rattle.lc_token.specs.declared.token.Token.{Token}
 use Rattle.lc_trunc.specs.KnownClean.{Sees, known as known_of}
 use Rattle.lc_recover.specs.Recovered.{RecoveredStore, sequence_of}
 use Rattle.lc_core.specs.Fresh.{IsFreshSlot, fresh_token, known_first}
-use Rattle.lc_core.specs.Node.{SeesStanding}
-use Rattle.lc_core.specs.declared.slot.Slot.{Slot}
+use Rattle.lc_core.specs.NodeState.{SeesStanding}
+use Rattle.lc_core.specs.declared.segment_copy.SegmentCopy.{SegmentCopy}
 
 max-zero : (n : ℕ) → max n 0 ≡ n
 max-zero n = omega arith
@@ -15,13 +15,13 @@ pub zero-max : (n : ℕ) → max 0 n ≡ n
 zero-max n = omega arith
 
 -- the token that may stand in a fresh slot is seen, and where none stands nothing is
-pub sees_fresh : {D : Type 0} (r : RecoveredStore D) (node place : ℕ) (slots : List Slot) (slot : Slot) (old new : List ℕ) → slice_get slots place ≡ Some slot → IsFreshSlot r node (place + 1) slot
+pub sees_fresh : {D : Type 0} (r : RecoveredStore D) (node place : ℕ) (slots : List SegmentCopy) (slot : SegmentCopy) (old new : List ℕ) → slice_get slots place ≡ Some slot → IsFreshSlot r node (place + 1) slot
     → SeesStanding (slice_get slots place) old new → (segment : ℕ)
     → known_of new segment ≡ (if segment == place + 1 then max (known_of old segment) (known_first r node (place + 1)) else known_of old segment)
 sees_fresh r node place slots slot old new at fresh sees segment =
     by_token ((place + 1) % r.geometry.nodes == node)
     (subst (λ (o : Option Token). MatchOption o (new ≡ old) (λ token. Sees old token new))
-    (ap (option_and_then (λ (its : Slot). its.token.token)) at ∙ ap (λ t. t.token) fresh.token) sees)
+    (ap (option_and_then (λ (its : SegmentCopy). its.token.token)) at ∙ ap (λ t. t.token) fresh.token) sees)
   where
     by_token : (b : Bool) → MatchOption (if b then Some (fresh_token r (place + 1)) else None) (new ≡ old) (λ token. Sees old token new)
         → known_of new segment ≡ (if segment == place + 1 then max (known_of old segment) (if b then sequence_of r (place + 1) else 0) else known_of old segment)

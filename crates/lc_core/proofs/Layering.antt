@@ -32,10 +32,10 @@ use Rattle.lc_core.specs.Running.{FitsRunning, Onward}
 use Rattle.lc_core.specs.Stepping.{StepsOn, TellsWriting, is_plain, works_up}
 use Rattle.lc_core.specs.Truncating.{StepsTo}
 use Rattle.lc_core.specs.World.{AsksIn, FitsPhase, Leads}
-use Rattle.lc_core.specs.declared.node.Node.{Node}
+use Rattle.lc_core.specs.declared.node_state.NodeState.{NodeState}
 use Rattle.lc_core.specs.declared.pages.Pages.{Pages}
-use Rattle.lc_core.specs.declared.phase.Phase.{Phase}
-use Rattle.lc_core.specs.declared.phase.Phase.TheVariants.{Up}
+use Rattle.lc_core.specs.declared.world_phase.WorldPhase.{WorldPhase}
+use Rattle.lc_core.specs.declared.world_phase.WorldPhase.TheVariants.{Up}
 use Rattle.lc_core.specs.declared.running.Running.{Running}
 use Rattle.lc_core.specs.declared.up.Up.{Up as Rising}
 use Rattle.lc_core.specs.declared.world.World.{World}
@@ -63,7 +63,7 @@ use Rattle.lc_core.proofs.Seating.{set_same}
 
 module _ {D : Type 0} (a : Ghosts D) where
   -- what its row gives where nothing refuses it at once
-  pub row_steps : (w : Running D a) (event : Event) (o : Option Refusal) → Refuses a w event o → o ≡ None → (reply : Reply) (geometry : Geometry) (nodes : List (Node D a)) (travelling : List (Option Token))
+  pub row_steps : (w : Running D a) (event : Event) (o : Option Refusal) → Refuses a w event o → o ≡ None → (reply : Reply) (geometry : Geometry) (nodes : List (NodeState D a)) (travelling : List (Option Token))
       → ((m : Setting) (s : State) (x : Numbers) → FitsRunning a m w s x → common_refusal m.geometry s event ≡ None → Onward a m event s x reply geometry nodes travelling)
       → (m : Setting) (s : State) (x : Numbers) → FitsRunning a m w s x → TellsWriting m x event false → StepsOn a m event s x reply geometry nodes travelling
   row_steps w event o refuses none reply geometry nodes travelling follows m s x h told =
@@ -80,8 +80,8 @@ module _ {D : Type 0} (a : Ghosts D) where
 
   -- what its node does, where nothing refuses it at once
   module _ (w : Running D a) (event : Event) (own : is_own event ≡ true) (o : Option Refusal) (refuses : Refuses a w event o) (none : o ≡ None) (is : is_known w.geometry event ≡ true)
-      (runs : ActsRunning a (named event) w.nodes.items) (n : ℕ) (acts : Some n ≡ option_map (λ its. its.node) (named event)) (node : Node D a) (read : node ≡ get_or w.nodes.items n node)
-      (result : Result Reply AllocError) (new : Node D a) (steps : StepsNode a n event node result new)
+      (runs : ActsRunning a (named event) w.nodes.items) (n : ℕ) (acts : Some n ≡ option_map (λ its. its.node) (named event)) (node : NodeState D a) (read : node ≡ get_or w.nodes.items n node)
+      (result : Result Reply AllocError) (new : NodeState D a) (steps : StepsNode a n event node result new)
       (later : Running D a) (geometry : later.geometry ≡ w.geometry) (nodes : later.nodes.items ≡ slice_set w.nodes.items n new) (travelling : later.travelling.items ≡ w.travelling.items) where
     pub node_tries : TriesRunning a w event result later
     node_tries =
@@ -126,7 +126,7 @@ module _ {D : Type 0} (a : Ghosts D) where
 
   -- what a thread is shown changes nothing
   pub read_running : (w : Running D a) (n thread segment offset len : ℕ) (o : Option Refusal) → Refuses a w (Read n thread segment offset len) o → o ≡ None
-      → is_known w.geometry (Read n thread segment offset len) ≡ true → ActsRunning a (named (Read n thread segment offset len)) w.nodes.items → (node : Node D a) → node ≡ get_or w.nodes.items n node
+      → is_known w.geometry (Read n thread segment offset len) ≡ true → ActsRunning a (named (Read n thread segment offset len)) w.nodes.items → (node : NodeState D a) → node ≡ get_or w.nodes.items n node
       → (reply : Reply) → ((k : ℕ) → FollowsOpen k node.desk (Read k thread segment offset len) reply node.desk) → may_read reply ≡ true
       → StepsRunning a w (Read n thread segment offset len) reply w
   read_running w n thread segment offset len o refuses none is runs node read reply follows its =
@@ -183,14 +183,14 @@ module _ {D : Type 0} (a : Ghosts D) where
   pub steps_up : (old new : World D a) (up later : Rising D a) (event : Event) (reply : Reply) → old.phase ≡ Up up → new.phase ≡ Up later → (event ≡ RecoverStep → ⊥) → StepsUp a up event reply later
       → StepsTo a old event reply new
   steps_up old new up later event reply was is other steps = record {
-    follows = λ m s x h. subst (λ (p : Phase D a). Leads a m event s x reply p) (sym is) (up_follows a old.phase up later event reply was steps.follows (stays_honest a up later event reply steps.calls) m s x h);
-    anyhow = subst (λ (p : Phase D a). Anyhow a old.phase event reply p) (sym is) (up_told a old.phase up later event reply was other steps.follows);
+    follows = λ m s x h. subst (λ (p : WorldPhase D a). Leads a m event s x reply p) (sym is) (up_follows a old.phase up later event reply was steps.follows (stays_honest a up later event reply steps.calls) m s x h);
+    anyhow = subst (λ (p : WorldPhase D a). Anyhow a old.phase event reply p) (sym is) (up_told a old.phase up later event reply was other steps.follows);
     at_once = up_asks a old.phase up was event other reply new.phase;
     faults =
-        subst (λ (p : Phase D a). CountsPhase a old.phase reply p) (sym is) (subst (λ (p : Phase D a). CountsPhase a p reply (Up later)) (sym was) steps.faults);
+        subst (λ (p : WorldPhase D a). CountsPhase a old.phase reply p) (sym is) (subst (λ (p : WorldPhase D a). CountsPhase a p reply (Up later)) (sym was) steps.faults);
     geometry = ap (phase_geometry a) is ∙ up_geometry a old.phase up later was steps.geometry;
     unknown = up_outside a old.phase up event reply was steps.unknown;
-    calls = subst (λ (p : Phase D a). CallsArea a old.phase event reply p) (sym is) (up_calls a old.phase up later event reply was steps.calls);
+    calls = subst (λ (p : WorldPhase D a). CallsArea a old.phase event reply p) (sym is) (up_calls a old.phase up later event reply was steps.calls);
     names = steps.names;
   }
 
@@ -199,27 +199,27 @@ module _ {D : Type 0} (a : Ghosts D) where
       → Tries a old event result new
   tries_up old new up later event (Ok reply) was is other tries = steps_up old new up later event reply was is other tries.steps
   tries_up old new up later event (Err fault) was is other tries =
-      let asks : AsksIn a old.phase event = subst (λ (p : Phase D a). AsksIn a p event) (sym was) tries.memory in
+      let asks : AsksIn a old.phase event = subst (λ (p : WorldPhase D a). AsksIn a p event) (sym was) tries.memory in
       record {
         asks = asks_world a old event asks;
         at_all = asks;
-        still = λ m s x h. subst (λ (p : Phase D a). FitsPhase a m p s x) (sym is) (up_still a old.phase up later was (keeps_honest a up later tries.kept) tries.err m s x h);
-        lives = subst (λ (p : Phase D a). StillLives a old.phase p) (sym is) (up_still_lives a old.phase up later was tries.err);
+        still = λ m s x h. subst (λ (p : WorldPhase D a). FitsPhase a m p s x) (sym is) (up_still a old.phase up later was (keeps_honest a up later tries.kept) tries.err m s x h);
+        lives = subst (λ (p : WorldPhase D a). StillLives a old.phase p) (sym is) (up_still_lives a old.phase up later was tries.err);
         failures = ap (phase_failures a) is ∙ tries.no_fault ∙ ap (phase_failures a) (sym was);
         geometry = ap (phase_geometry a) is ∙ up_geometry a old.phase up later was tries.geometry;
-        kept = subst (λ (p : Phase D a). KeepsAreas a old.phase p) (sym is) (up_keeps a old.phase up later was tries.kept);
+        kept = subst (λ (p : WorldPhase D a). KeepsAreas a old.phase p) (sym is) (up_keeps a old.phase up later was tries.kept);
       }
 
   -- one that is down does nothing
   pub steps_down : (old new : World D a) → new.phase ≡ old.phase → (event : Event) → works_up event ≡ true → ((up : Rising D a) → old.phase ≡ Up up → ⊥) → StepsTo a old event (Refused IsDown) new
   steps_down old new same event works other = record {
-    follows = λ m s x h. subst (λ (p : Phase D a). Leads a m event s x (Refused IsDown) p) (sym same) (not_up a old.phase event other works m s x h);
+    follows = λ m s x h. subst (λ (p : WorldPhase D a). Leads a m event s x (Refused IsDown) p) (sym same) (not_up a old.phase event other works m s x h);
     anyhow = others_told a old.phase event (Refused IsDown) new.phase other (λ recovers. (let no : false ≡ true = sym (ap works_up recovers) ∙ works in absurd cc));
-    at_once = subst (λ (p : Phase D a). RefusesAtOnce a old.phase event (Refused IsDown) p) (sym same) (down_refuses a old.phase event other works);
+    at_once = subst (λ (p : WorldPhase D a). RefusesAtOnce a old.phase event (Refused IsDown) p) (sym same) (down_refuses a old.phase event other works);
     faults = record { fault = λ fails. absurd (true≢false (sym fails)); none = λ _. ap (phase_failures a) same };
     geometry = ap (phase_geometry a) same;
     unknown = down_outside a old.phase event (Refused IsDown) other refl;
-    calls = subst (λ (p : Phase D a). CallsArea a old.phase event (Refused IsDown) p) (sym same) (calls_none a old.phase event (Refused IsDown) (λ g. refused_free g event IsDown refl));
+    calls = subst (λ (p : WorldPhase D a). CallsArea a old.phase event (Refused IsDown) p) (sym same) (calls_none a old.phase event (Refused IsDown) (λ g. refused_free g event IsDown refl));
     names = common_may event IsDown (works_acts event works) refl;
   }
 

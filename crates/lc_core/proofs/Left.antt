@@ -33,7 +33,7 @@ use Rattle.lc_core.specs.Leaves.{with_token, IsAsBefore, Leaves, MayLeave}
 use Rattle.lc_core.specs.declared.desk.Desk.{Desk}
 use Rattle.lc_core.specs.declared.here.Here.{Here}
 use Rattle.lc_core.specs.Seat.{Seat}
-use Rattle.lc_core.specs.declared.slot.Slot.{Slot}
+use Rattle.lc_core.specs.declared.segment_copy.SegmentCopy.{SegmentCopy}
 use Rattle.lc_core.proofs.Dropping.{runs_same, desk_seen}
 use Rattle.lc_core.proofs.Holding.{not_free-held, free-unheld}
 use Rattle.lc_core.proofs.Moved.{free-is, not-free, runs_moved, desk_moved, unheld-free}
@@ -52,17 +52,17 @@ pub record LeaveAnswers (standing next : Standing) (holds writes : Bool) (count 
 
 pub same_items : (old new : Here) → new.slots.items ≡ old.slots.items → new.spare ≡ old.spare → IsSame the_images old new
 same_items old new slots spare = record {
-  numbers = λ segment. ap (λ (l : List Slot). number_of l segment) slots;
-  others = λ segment here other. ap (λ (l : List Slot). image_of new.spare l segment) slots ∙ ap (λ (p : Picture). image_of p old.slots.items segment) spare;
+  numbers = λ segment. ap (λ (l : List SegmentCopy). number_of l segment) slots;
+  others = λ segment here other. ap (λ (l : List SegmentCopy). image_of new.spare l segment) slots ∙ ap (λ (p : Picture). image_of p old.slots.items segment) spare;
   beside = (spare, ap (map beside) slots);
 }
 
-same_slots : (here : Here) (k : ℕ) (slot : Slot) → slice_get here.slots.items k ≡ Some slot → (next : Standing) → next ≡ slot.token
+same_slots : (here : Here) (k : ℕ) (slot : SegmentCopy) → slice_get here.slots.items k ≡ Some slot → (next : Standing) → next ≡ slot.token
     → slice_set here.slots.items k (record slot { token = next }) ≡ here.slots.items
 same_slots here k slot at next same = ap (λ (p : Standing). slice_set here.slots.items k (record slot { token = p })) same ∙ set_same here.slots.items k slot at
 
 -- where the slot's token is as it was, all is
-pub as_before : (old new : Desk) (k : ℕ) (slot : Slot) → slice_get old.here.slots.items k ≡ Some slot → (next : Standing)
+pub as_before : (old new : Desk) (k : ℕ) (slot : SegmentCopy) → slice_get old.here.slots.items k ≡ Some slot → (next : Standing)
     → new.here ≡ record old.here { slots = with_item old.here.slots k (record slot { token = next }) } → new.seats ≡ old.seats → next ≡ slot.token → IsAsBefore old new
 as_before old new k slot at next here_is seats_is same =
     let slots : new.here.slots.items ≡ old.here.slots.items = ap (λ (h : Here). h.slots.items) here_is ∙ same_slots old.here k slot at next same in
@@ -74,7 +74,7 @@ as_before old new k slot at next here_is seats_is same =
       fits = λ m node s h. rw seats_is (desk_seen m node old.here new.here old.seats.items s old.runs (same_items old.here new.here slots spare) h);
     }
 
-pub runs_stay : (here : Here) (k : ℕ) (slot : Slot) (seats : List Seat) (next : Standing) → slice_get here.slots.items k ≡ Some slot → next ≡ slot.token → AllRun here seats
+pub runs_stay : (here : Here) (k : ℕ) (slot : SegmentCopy) (seats : List Seat) (next : Standing) → slice_get here.slots.items k ≡ Some slot → next ≡ slot.token → AllRun here seats
     → AllRun (record here { slots = with_item here.slots k (record slot { token = next }) }) seats
 runs_stay here k slot seats next at same runs =
     runs_same here (record here { slots = with_item here.slots k (record slot { token = next }) }) seats runs
@@ -88,7 +88,7 @@ is_held_by : (b c : Bool) → b ≡ not c → b ≡ true → c ≡ false
 is_held_by b true is held_is = absurd (true≢false (sym held_is ∙ is))
 is_held_by b false is held_is = refl
 
-image_held : (here : Here) (k : ℕ) (slot : Slot) → slice_get here.slots.items k ≡ Some slot → holders_of the_images here (suc k) ≡ slot.image.holders
+image_held : (here : Here) (k : ℕ) (slot : SegmentCopy) → slice_get here.slots.items k ≡ Some slot → holders_of the_images here (suc k) ≡ slot.image.holders
 image_held here k slot at = ap (λ o. (image_at here.spare o).holders) at
 
 pub same_left : (standing next : Standing) (result : Result Token TokenFault) → OnOk result (next ≡ record standing { token = None }) → OnErr result (next ≡ standing) → next.segment ≡ standing.segment
@@ -96,7 +96,7 @@ same_left standing next (Ok token) empty err = ap (λ (p : Standing). p.segment)
 same_left standing next (Err fault) empty err = ap (λ (p : Standing). p.segment) err
 
 -- when it leaves
-pub may_leave : (slot : Slot) (next : Standing) (holds writes : Bool) (count stable : ℕ) (result : Result Token TokenFault)
+pub may_leave : (slot : SegmentCopy) (next : Standing) (holds writes : Bool) (count stable : ℕ) (result : Result Token TokenFault)
     → holds ≡ not (is_free slot.image.holders) → LeaveAnswers slot.token next holds writes count stable result → IsOk result ↔ MayLeave writes count stable slot
 may_leave slot next holds writes count stable result holds_is a = (
   λ ok. (let done = a.done.0 ok in (done.0, free-is slot.image.holders (not_held holds (is_free slot.image.holders) holds_is done.1), done.2, done.3)),
@@ -104,7 +104,7 @@ may_leave slot next holds writes count stable result holds_is a = (
 )
 
 -- where it stays all is as it was, and where it leaves no transaction had the segment
-pub runs_left : (here : Here) (k : ℕ) (slot : Slot) (seats : List Seat) (next : Standing) (holds writes : Bool) (count stable : ℕ) (result : Result Token TokenFault)
+pub runs_left : (here : Here) (k : ℕ) (slot : SegmentCopy) (seats : List Seat) (next : Standing) (holds writes : Bool) (count stable : ℕ) (result : Result Token TokenFault)
     → slice_get here.slots.items k ≡ Some slot → holds ≡ not (is_free slot.image.holders) → LeaveAnswers slot.token next holds writes count stable result → AllRun here seats
     → AllRun (record here { slots = with_item here.slots k (record slot { token = next }) }) seats
 runs_left here k slot seats next holds writes count stable (Ok token) at holds_is a runs =
@@ -114,7 +114,7 @@ runs_left here k slot seats next holds writes count stable (Ok token) at holds_i
     (runs_moved here k slot at None seats runs (λ j tx on held. unheld-free here (suc k) j tx (image_held here k slot at ∙ free) on held))
 runs_left here k slot seats next holds writes count stable (Err fault) at holds_is a runs = runs_stay here k slot seats next at a.err runs
 
-module _ (old new : Desk) (segment : ℕ) (first : 1 ≤ segment) (slot : Slot) (at : slice_get old.here.slots.items (segment - 1) ≡ Some slot) (its : slot.token.segment ≡ segment)
+module _ (old new : Desk) (segment : ℕ) (first : 1 ≤ segment) (slot : SegmentCopy) (at : slice_get old.here.slots.items (segment - 1) ≡ Some slot) (its : slot.token.segment ≡ segment)
     (next : Standing) (holds writes : Bool) (holds_is : holds ≡ not (is_free slot.image.holders)) (count stable : ℕ) (result : Result Token TokenFault)
     (a : LeaveAnswers slot.token next holds writes count stable result)
     (here_is : new.here ≡ record old.here { slots = with_item old.here.slots (segment - 1) (record slot { token = next }) }) (seats_is : new.seats ≡ old.seats) where

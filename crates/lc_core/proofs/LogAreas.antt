@@ -7,11 +7,11 @@ use Rattle.lc_disk.specs.declared.area.Area.{Ghosts}
 use Rattle.lc_core.specs.Faults.{logs_of}
 use Rattle.lc_core.specs.Log.{area_of}
 use Rattle.lc_core.specs.Places.{same_map_set}
-use Rattle.lc_core.specs.declared.node.Node.{Node}
+use Rattle.lc_core.specs.declared.node_state.NodeState.{NodeState}
 
-pub areas_stay : {D : Type 0} (a : Ghosts D) (nodes : List (Node D a)) (n : ℕ) (old new : Node D a) → slice_get nodes n ≡ Some old → area_of a new.journal.log ≡ area_of a old.journal.log
+pub areas_stay : {D : Type 0} (a : Ghosts D) (nodes : List (NodeState D a)) (n : ℕ) (old new : NodeState D a) → slice_get nodes n ≡ Some old → area_of a new.journal.log ≡ area_of a old.journal.log
     → map (area_of a) (logs_of a (slice_set nodes n new)) ≡ map (area_of a) (logs_of a nodes)
 areas_stay {D} a nodes n old new at same =
-    ap (map (area_of a)) (map-set (λ (node : Node D a). node.journal.log) nodes n new)
+    ap (map (area_of a)) (map-set (λ (node : NodeState D a). node.journal.log) nodes n new)
     ∙ same_map_set (area_of a) (logs_of a nodes) n old.journal.log new.journal.log
-    (slice_get-map (λ (node : Node D a). node.journal.log) nodes n ∙ ap (option_map (λ (node : Node D a). node.journal.log)) at) same
+    (slice_get-map (λ (node : NodeState D a). node.journal.log) nodes n ∙ ap (option_map (λ (node : NodeState D a). node.journal.log)) at) same

@@ -28,7 +28,7 @@ use Rattle.lc_trunc.specs.KnownClean.{known as known_of}
 use Rattle.lc_core.specs.Lives.{StillLives}
 use Rattle.lc_core.specs.Log.{Stands, HasReset, IsLeft, area_of, is_failed}
 use Rattle.lc_core.specs.LogWords.{AreLogged, AreWordsOf, IsNodeKept, IsNodeRead, IsSameBut, ReadsLog, ReadsNone, has_failed, log_area, log_in}
-use Rattle.lc_core.specs.Node.{FitsNode}
+use Rattle.lc_core.specs.NodeState.{FitsNode}
 use Rattle.lc_core.specs.Numbers.{Numbers, stable_records}
 use Rattle.lc_core.specs.Devices.{HonestLogs, HonestSegments}
 use Rattle.lc_core.specs.Paging.{HaltAll}
@@ -37,17 +37,17 @@ use Rattle.lc_core.specs.Pages.{FitsPages, areas_of}
 use Rattle.lc_core.specs.Paging.{HaltAll}
 use Rattle.lc_core.proofs.Devices.{honest_kept}
 use Rattle.lc_core.specs.Places.{get_set_other, get_set_same, same_some}
-use Rattle.lc_core.specs.Records.{Kept}
+use Rattle.lc_core.specs.Records.{KeptRecords}
 use Rattle.lc_core.specs.Running.{FitsAll, FitsRunning}
 use Rattle.lc_core.specs.Slots.{FitsSlots, besides_of}
 use Rattle.lc_core.specs.World.{FitsDown, FitsPhase, StillFitsUp}
 use Rattle.lc_core.specs.declared.desk.Desk.{Desk}
 use Rattle.lc_core.specs.declared.log.Log.{Log}
 use Rattle.lc_core.specs.declared.log.Log.TheVariants.{Idle, Written, Synced, Opened, Sealed, Closing, Emptied, Failed, Torn, Taken}
-use Rattle.lc_core.specs.declared.node.Node.{Node}
+use Rattle.lc_core.specs.declared.node_state.NodeState.{NodeState}
 use Rattle.lc_core.specs.declared.pages.Pages.{Pages}
-use Rattle.lc_core.specs.declared.phase.Phase.{Phase}
-use Rattle.lc_core.specs.declared.phase.Phase.TheVariants.{Down, Up, Taken as IsTaken}
+use Rattle.lc_core.specs.declared.world_phase.WorldPhase.{WorldPhase}
+use Rattle.lc_core.specs.declared.world_phase.WorldPhase.TheVariants.{Down, Up, Taken as IsTaken}
 use Rattle.lc_core.specs.declared.running.Running.{Running}
 use Rattle.lc_core.specs.declared.show_fault.ShowFault.{ShowFault}
 use Rattle.lc_core.specs.declared.show_fault.ShowFault.TheVariants.{DeviceFault, NoMemory, Unknown}
@@ -189,10 +189,10 @@ module _ {D : Type 0} (a : Ghosts D) where
         counts false is = ap (λ b. if b then a.failures read.call.old else a.failures read.call.old + 1) is
 
   -- nothing is read
-  pub same_phase : (node : ℕ) (phase : Phase D a) → IsSameBut a node phase phase
+  pub same_phase : (node : ℕ) (phase : WorldPhase D a) → IsSameBut a node phase phase
   same_phase node phase = record { others = λ other differ. refl; segments = refl; geometry = refl; still = λ m s x fits. fits; lives = λ g at fits. fits }
 
-  pub not_read : (node : ℕ) (area : D) (phase : Phase D a) → log_area a phase node ≡ Some area → ReadsLog a node area phase phase false
+  pub not_read : (node : ℕ) (area : D) (phase : WorldPhase D a) → log_area a phase node ≡ Some area → ReadsLog a node area phase phase false
   not_read node area phase there = record {
     next = area;
     there = there;
@@ -236,7 +236,7 @@ module _ {D : Type 0} (a : Ghosts D) where
 
   -- The nodes of a store that is up
 
-  module _ (n : ℕ) (node : Node D a) (old new : Running D a) (kept : IsNodeKept a n node old new) (at : slice_get old.nodes.items n ≡ Some node) where
+  module _ (n : ℕ) (node : NodeState D a) (old new : Running D a) (kept : IsNodeKept a n node old new) (at : slice_get old.nodes.items n ≡ Some node) where
     node_still : (m : Setting) (s : State) (x : Numbers) → FitsNode a m n node s x → FitsNode a m n kept.now s x
     node_still m s x h = record {
       desk = subst (λ (d : Desk). FitsDesk m n d.here d.seats.items s) (sym kept.desk) h.desk;
@@ -265,22 +265,22 @@ module _ {D : Type 0} (a : Ghosts D) where
     all_still : (m : Setting) (s : State) (x : Numbers) → FitsRunning a m old s x → FitsRunning a m new s x
     all_still m s x h =
         subst (λ (g : Geometry). FitsAll a m g new.nodes.items new.travelling.items s x) (sym kept.geometry)
-        (subst (λ (nodes : List (Node D a)). FitsAll a m old.geometry nodes new.travelling.items s x) (sym kept.nodes)
+        (subst (λ (nodes : List (NodeState D a)). FitsAll a m old.geometry nodes new.travelling.items s x) (sym kept.nodes)
         (subst (λ (tokens : List (Option Token)). FitsAll a m old.geometry (slice_set old.nodes.items n kept.now) tokens s x) (sym (ap vec_items kept.travelling))
         (still_onward a m n s x old.geometry old.nodes.items old.travelling.items node kept.now at (node_still m s x) h)))
 
     own_log : log_in a new.nodes.items n ≡ area_of a kept.now.journal.log
-    own_log = ap (λ nodes. log_in a nodes n) kept.nodes ∙ ap (option_and_then (λ (its : Node D a). area_of a its.journal.log)) (get_set_same old.nodes.items n node kept.now at)
+    own_log = ap (λ nodes. log_in a nodes n) kept.nodes ∙ ap (option_and_then (λ (its : NodeState D a). area_of a its.journal.log)) (get_set_same old.nodes.items n node kept.now at)
 
     other_logs : (other : ℕ) → (other ≡ n → ⊥) → log_in a new.nodes.items other ≡ log_in a old.nodes.items other
-    other_logs other differ = ap (λ nodes. log_in a nodes other) kept.nodes ∙ ap (option_and_then (λ (its : Node D a). area_of a its.journal.log)) (get_set_other old.nodes.items n other kept.now differ)
+    other_logs other differ = ap (λ nodes. log_in a nodes other) kept.nodes ∙ ap (option_and_then (λ (its : NodeState D a). area_of a its.journal.log)) (get_set_other old.nodes.items n other kept.now differ)
 
   -- the segments of a store that is up are as before, and its nodes have the same devices
   record IsLater (up later : Rising D a) : Type 0 where
     pub segments : later.segments ≡ up.segments
     pub devices : SameDevices a up.running later.running
 
-  up_still : (n : ℕ) (node : Node D a) (up later : Rising D a) (kept : IsNodeKept a n node up.running later.running) (at : slice_get up.running.nodes.items n ≡ Some node) → IsLater up later
+  up_still : (n : ℕ) (node : NodeState D a) (up later : Rising D a) (kept : IsNodeKept a n node up.running later.running) (at : slice_get up.running.nodes.items n ≡ Some node) → IsLater up later
       → StillFitsUp a up later
   up_still n node up later kept at is m s x fits = record {
     running = all_still n node up.running later.running kept at m s x fits.running;
@@ -288,7 +288,7 @@ module _ {D : Type 0} (a : Ghosts D) where
     failed = subst (λ (segments : Vec (Pages D a) Global). HaltAll a s segments.items) (sym is.segments) fits.failed;
   }
 
-  up_same : (n : ℕ) (node : Node D a) (up later : Rising D a) (kept : IsNodeKept a n node up.running later.running) (at : slice_get up.running.nodes.items n ≡ Some node) → IsLater up later
+  up_same : (n : ℕ) (node : NodeState D a) (up later : Rising D a) (kept : IsNodeKept a n node up.running later.running) (at : slice_get up.running.nodes.items n ≡ Some node) → IsLater up later
       → IsSameBut a n (Up up) (Up later)
   up_same n node up later kept at is = record {
     others = other_logs n node up.running later.running kept at;
@@ -327,21 +327,21 @@ module _ {D : Type 0} (a : Ghosts D) where
     );
   }
 
-  node_of : (nodes : List (Node D a)) (n : ℕ) (area : D) → log_in a nodes n ≡ Some area → (its : Node D a) × (slice_get nodes n ≡ Some its) × (area_of a its.journal.log ≡ Some area)
-  node_of nodes n area there = elim (slice_get nodes n) as (λ (o : Option (Node D a)). slice_get nodes n ≡ o → option_and_then (λ (its : Node D a). area_of a its.journal.log) o ≡ Some area
-      → (its : Node D a) × (slice_get nodes n ≡ Some its) × (area_of a its.journal.log ≡ Some area)) [
+  node_of : (nodes : List (NodeState D a)) (n : ℕ) (area : D) → log_in a nodes n ≡ Some area → (its : NodeState D a) × (slice_get nodes n ≡ Some its) × (area_of a its.journal.log ≡ Some area)
+  node_of nodes n area there = elim (slice_get nodes n) as (λ (o : Option (NodeState D a)). slice_get nodes n ≡ o → option_and_then (λ (its : NodeState D a). area_of a its.journal.log) o ≡ Some area
+      → (its : NodeState D a) × (slice_get nodes n ≡ Some its) × (area_of a its.journal.log ≡ Some area)) [
         | None ↦ λ e h. absurd cc
         | Some its ↦ λ e h. (its, e, h)
       ] refl there
 
-  pub same_down : (one other : Recovering D) → ◌≡◌ {A = Phase D a} (Down one) (Down other) → one ≡ other
+  pub same_down : (one other : Recovering D) → ◌≡◌ {A = WorldPhase D a} (Down one) (Down other) → one ≡ other
   same_down one other same = cc
 
   pub down_none : (r late : Recovering D) (node : ℕ) → late ≡ r → log_area a (Down r) node ≡ None → ReadsNone a node (Down r) (Down late)
   down_none r late node same none = subst (λ (n : Recovering D). ReadsNone a node (Down r) (Down n)) (sym same) (record { there = none; same = same_phase node (Down r) })
 
   pub up_reads : (up later : Rising D a) (n : ℕ) (R : Type 0) (failed : Bool) → later.segments ≡ up.segments → SameDevices a up.running later.running
-      → ((area : D) (its : Node D a) → slice_get up.running.nodes.items n ≡ Some its → area_of a its.journal.log ≡ Some area → R × IsNodeRead a n its area up.running later.running failed)
+      → ((area : D) (its : NodeState D a) → slice_get up.running.nodes.items n ≡ Some its → area_of a its.journal.log ≡ Some area → R × IsNodeRead a n its area up.running later.running failed)
       → (area : D) → log_in a up.running.nodes.items n ≡ Some area → R × ReadsLog a n area (Up up) (Up later) failed
   up_reads up later n R failed segments devices each area there =
       let its = node_of up.running.nodes.items n area there in
@@ -357,10 +357,10 @@ module _ {D : Type 0} (a : Ghosts D) where
 
   pub up_none : (up later : Rising D a) (n : ℕ) (R : Type 0) → later.segments ≡ up.segments → SameDevices a up.running later.running
       → (slice_get up.running.nodes.items n ≡ None → R × (later.running ≡ up.running))
-      → ((its : Node D a) → slice_get up.running.nodes.items n ≡ Some its → area_of a its.journal.log ≡ None → R × (kept : IsNodeKept a n its up.running later.running) × (area_of a kept.now.journal.log ≡ None))
+      → ((its : NodeState D a) → slice_get up.running.nodes.items n ≡ Some its → area_of a its.journal.log ≡ None → R × (kept : IsNodeKept a n its up.running later.running) × (area_of a kept.now.journal.log ≡ None))
       → log_in a up.running.nodes.items n ≡ None → R × ReadsNone a n (Up up) (Up later)
-  up_none up later n R segments devices outside inside none = elim (slice_get up.running.nodes.items n) as (λ (o : Option (Node D a)). slice_get up.running.nodes.items n ≡ o
-      → option_and_then (λ (its : Node D a). area_of a its.journal.log) o ≡ None → R × ReadsNone a n (Up up) (Up later)) [
+  up_none up later n R segments devices outside inside none = elim (slice_get up.running.nodes.items n) as (λ (o : Option (NodeState D a)). slice_get up.running.nodes.items n ≡ o
+      → option_and_then (λ (its : NodeState D a). area_of a its.journal.log) o ≡ None → R × ReadsNone a n (Up up) (Up later)) [
         | None ↦ λ e h.
             (let same = outside e in (
               same.0,
@@ -450,7 +450,7 @@ module _ {D : Type 0} (a : Ghosts D) where
   fails_as Taken area reset steps stable group is honest fits failed at stands = absurd stands
 
   -- the words are those of what the node has logged
-  pub logged : (m : Setting) (n : ℕ) (log : Log D a) (kept : Kept) (dropped trimmed taken acked : ℕ) (s : State) (x : Numbers) (area : D) (words : List ℕ)
+  pub logged : (m : Setting) (n : ℕ) (log : Log D a) (kept : KeptRecords) (dropped trimmed taken acked : ℕ) (s : State) (x : Numbers) (area : D) (words : List ℕ)
       → FitsLog a m n log kept dropped trimmed taken acked s x → dropped ≤ acked → acked ≤ taken
       → area_of a log ≡ Some area → a.honest area ≡ true → ((k : ℕ) → slice_index_or (a.now area) k 0 < 256) → AreWordsOf a area words → AreLogged m s x n words
   logged m n log kept dropped trimmed taken acked s x area words h less few is honest fits shows = elim (cases_Bool (is_failed a log)) [
@@ -485,7 +485,7 @@ module _ {D : Type 0} (a : Ghosts D) where
           sym (more_stable records dropped acked taken less few)
           ∙ ap (λ k. drop k (take taken records)) h.dropped_is ∙ ap (λ k. drop (x.disks.dropped n) (take k records)) (sym h.taken_is)
 
-  pub show_records : (phase : Phase D a) (n : ℕ) (area : D) (words : List ℕ) → log_area a phase n ≡ Some area
+  pub show_records : (phase : WorldPhase D a) (n : ℕ) (area : D) (words : List ℕ) → log_area a phase n ≡ Some area
       → ((up : Rising D a) → phase ≡ Up up → log_in a up.running.nodes.items n ≡ Some area → a.honest area ≡ true → (k : ℕ) → slice_index_or (a.now area) k 0 < 256)
       → AreWordsOf a area words
       → (m : Setting) (s : State) (x : Numbers) → FitsPhase a m phase s x → s.phase ≡ IsUpNow → AreLogged m s x n words

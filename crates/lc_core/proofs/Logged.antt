@@ -23,7 +23,7 @@ use Rattle.lc_model.proofs.Fronts.{entry, front-closed, front-push, front-reserv
 use Rattle.lc_model.proofs.Lists.{found-passes}
 use Rattle.lc_model.proofs.Moves.{reserved-count}
 use Rattle.lc_core.specs.Numbers.{Numbers, round_records, log_end}
-use Rattle.lc_core.specs.Records.{Spelled, Kept, all_words, count_of, front_of, span_of, marks_of, closing, closed_at}
+use Rattle.lc_core.specs.Records.{Spelled, KeptRecords, all_words, count_of, front_of, span_of, marks_of, closing, closed_at}
 use Rattle.lc_core.specs.declared.log.Log.{Log}
 use Rattle.lc_core.specs.Log.{Stands}
 use Rattle.lc_core.specs.Journal.{FitsLog}
@@ -79,7 +79,7 @@ closing_each place [] = refl
 closing_each zero (r ∷ rs) = refl
 closing_each (suc place) (r ∷ rs) = ap (λ (ws : List (List ℕ)). r.words ∷ ws) (closing_each place rs)
 
-span_all : (k : Kept) (from : ℕ) → k.before ≤ from → span_of k from (count_of k) ≡ all_words (drop (from - k.before) k.records)
+span_all : (k : KeptRecords) (from : ℕ) → k.before ≤ from → span_of k from (count_of k) ≡ all_words (drop (from - k.before) k.records)
 span_all k from kept =
     ap all_words (take_all (count_of k - from) (drop (from - k.before) k.records) (omega (arith, kept, length-drop (from - k.before) k.records)))
 
@@ -91,14 +91,14 @@ open_behind (true ∷ ms) zero is = absurd cc
 open_behind (true ∷ ms) (suc n) is = omega (arith, open_behind ms n is)
 
 -- these are those, and what a journal's facts ask of them
-pub record Extends (k later : Kept) (dropped acked taken : ℕ) (more : ℕ) : Type 0 where
+pub record Extends (k later : KeptRecords) (dropped acked taken : ℕ) (more : ℕ) : Type 0 where
   pub before_is : later.before ≡ k.before
   pub front : front_of k ≤ front_of later
   pub stable : span_of later dropped acked ≡ span_of k dropped acked
   pub on_its_way : span_of later acked taken ≡ span_of k acked taken
   pub end : length (span_of later dropped (count_of later)) ≡ length (span_of k dropped (count_of k)) + more
 
-module _ (k : Kept) (dropped acked taken : ℕ) (kept : k.before ≤ dropped) (first : dropped ≤ acked) (second : acked ≤ taken) (few : taken ≤ front_of k) where
+module _ (k : KeptRecords) (dropped acked taken : ℕ) (kept : k.before ≤ dropped) (first : dropped ≤ acked) (second : acked ≤ taken) (few : taken ≤ front_of k) where
   pub same_extends : Extends k k dropped acked taken 0
   same_extends = record { before_is = refl; front = omega arith; stable = refl; on_its_way = refl; end = omega arith }
 
@@ -109,7 +109,7 @@ module _ (k : Kept) (dropped acked taken : ℕ) (kept : k.before ≤ dropped) (f
   pub more_extends : (words : List ℕ) → Extends k (record k { records = k.records ++ record { words = words; closed = false } ∷ [] }) dropped acked taken (length words)
   more_extends words =
       let r : Spelled = record { words = words; closed = false } in
-      let later : Kept = record k { records = k.records ++ r ∷ [] } in
+      let later : KeptRecords = record k { records = k.records ++ r ∷ [] } in
       let count : front_of k ≤ count_of k = omega (arith, leading_le k.records) in
       let place : ℕ = dropped - k.before in
       record {
@@ -155,7 +155,7 @@ module _ (k : Kept) (dropped acked taken : ℕ) (kept : k.before ≤ dropped) (f
       closed_or false is = closing_extends (number - k.before)
 
 -- none comes and none goes
-pub closed_count : (number : ℕ) (k : Kept) → count_of (closed_at number k) ≡ count_of k
+pub closed_count : (number : ℕ) (k : KeptRecords) → count_of (closed_at number k) ≡ count_of k
 closed_count number k = closed_or (nat_lt number k.before)
   where
     closed_or : (b : Bool) → count_of (if b then k else record k { records = closing (number - k.before) k.records }) ≡ count_of k
@@ -177,7 +177,7 @@ length-joined [] = refl
 length-joined (r ∷ records) =
     omega (arith, sum_by-cons record_len r records, length-joined records, length-spelling r, length-append (spelling r) (joined records))
 
-module _ {D : Type 0} (a : Ghosts D) (m : Setting) (node : ℕ) (s : State) (x : Numbers) (log : Log D a) (k : Kept) (dropped trimmed taken acked : ℕ)
+module _ {D : Type 0} (a : Ghosts D) (m : Setting) (node : ℕ) (s : State) (x : Numbers) (log : Log D a) (k : KeptRecords) (dropped trimmed taken acked : ℕ)
     (h : FitsLog a m node log k dropped trimmed taken acked s x) where
   abbrev records : List Record
   records = records_of m s x.disks node
@@ -283,5 +283,5 @@ module _ {D : Type 0} (a : Ghosts D) (m : Setting) (node : ℕ) (s : State) (x :
   fits_closed thread number t sound found there =
       let behind = open_behind marks number (get-map (λ (e : Entry). e.closed) (entries_of node s.history) number (entry t false) there) in
       let kept : k.before ≤ number = le_trans h.all_closed behind in
-      subst (λ (l : Kept). FitsLog a m node log l dropped trimmed taken acked (record s { history = closed_by node thread s.history }) x) (sym (closed_in number k kept))
+      subst (λ (l : KeptRecords). FitsLog a m node log l dropped trimmed taken acked (record s { history = closed_by node thread s.history }) x) (sym (closed_in number k kept))
       (fits_shut thread number t sound kept found there)

@@ -26,11 +26,11 @@ use Rattle.lc_core.specs.Seats.{Runs, AllRun}
 use Rattle.lc_core.specs.Desk.{FitsDesk, Sits}
 use Rattle.lc_core.specs.Leaves.{with_token}
 use Rattle.lc_core.specs.declared.here.Here.{Here}
-use Rattle.lc_core.specs.declared.slot.Slot.{Slot}
+use Rattle.lc_core.specs.declared.segment_copy.SegmentCopy.{SegmentCopy}
 use Rattle.lc_core.proofs.Dropping.{seat_beside}
 
 -- the place with another token in it
-abbrev pub with_standing : Here → ℕ → Slot → Option Token → Here
+abbrev pub with_standing : Here → ℕ → SegmentCopy → Option Token → Here
 with_standing here k slot token = record here { slots = with_item here.slots k (with_token slot token) }
 
 -- what is free of locks is read by nobody
@@ -51,7 +51,7 @@ update_own f k to = ap (λ b. if b then to else f k) (eq-eqb k k refl)
 update_other : (f : ℕ → Place) (k j : ℕ) (to : Place) → j ≢ k → update f k to j ≡ f j
 update_other f k j to differ = ap (λ b. if b then to else f j) (ne_eqb j k differ)
 
-module _ (here : Here) (k : ℕ) (slot : Slot) (at : slice_get here.slots.items k ≡ Some slot) (token : Option Token) where
+module _ (here : Here) (k : ℕ) (slot : SegmentCopy) (at : slice_get here.slots.items k ≡ Some slot) (token : Option Token) where
   abbrev there : Here
   there = with_standing here k slot token
 

@@ -18,7 +18,7 @@ use Rattle.lc_rest.specs.Parts.{AreSpelled, KeepsLog}
 use Rattle.lc_core.specs.Pieces.{IsNodePiece}
 use Rattle.lc_core.specs.Places.{same_some}
 use Rattle.lc_core.specs.ReadNodes.{AreReadNodes, HasOneMore, IsReadNode, IsReadPart, images_of}
-use Rattle.lc_core.specs.Records.{Kept}
+use Rattle.lc_core.specs.Records.{KeptRecords}
 use Rattle.lc_core.specs.declared.node_images.NodeImages.{NodeImages}
 use Rattle.lc_rest.specs.declared.node_part.NodePart.{NodePart}
 use Rattle.lc_core.specs.declared.node_piece.NodePiece.{NodePiece}
@@ -54,14 +54,14 @@ module _ {D : Type 0} (a : Ghosts D) where
       → piece.log ≡ part.log → piece.round ≡ part.round → piece.known ≡ part.known → piece.records ≡ record { before = dropped; records = map closed_record (k.stable ++ k.staged) } → piece.stable ≡ dropped + length k.stable
       → IsNodePiece a g.words piece → IsReadPart a g.words part piece rs count
   read_part g part k piece rs dropped count all first last log round known records stable fits =
-      let before : piece.records.before ≡ dropped = ap (λ (r : Kept). r.before) records in
+      let before : piece.records.before ≡ dropped = ap (λ (r : KeptRecords). r.before) records in
       let many : length (k.ended ++ k.stable) ≡ length k.ended + length k.stable = length-append k.ended k.stable in
       let behind : drop dropped rs ≡ k.stable ++ k.staged = ap (drop dropped) (all ∙ whole k.ended k.stable k.staged) ∙ drop_at k.ended (k.stable ++ k.staged) dropped (sym first) in
       record {
         log = log;
         round = round;
         known = known;
-        records = ap (λ (r : Kept). r.records) records ∙ ap (map closed_record) (sym behind) ∙ ap (λ (n : ℕ). map closed_record (drop n rs)) (sym before);
+        records = ap (λ (r : KeptRecords). r.records) records ∙ ap (map closed_record) (sym behind) ∙ ap (λ (n : ℕ). map closed_record (drop n rs)) (sym before);
         stable = omega (arith, stable, first, last, many);
         read = subst (λ (n : ℕ). IsReadLog a part n count rs) (sym before) (read_log g part k rs dropped count all first last);
         fits = fits;

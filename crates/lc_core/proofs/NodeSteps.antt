@@ -20,7 +20,7 @@ use Rattle.lc_core.specs.FollowsDesk.{FollowsOpen, StillFits}
 use Rattle.lc_core.specs.Here.{the_images}
 use Rattle.lc_core.specs.Log.{area_of, is_failed, is_sealed}
 use Rattle.lc_core.specs.MayReply.{done_or, is_turn, may_answer, may_reserve}
-use Rattle.lc_core.specs.Node.{FollowsNode, FollowsReserve, HasSameRoom, StillFitsNode, WantsPlace, moved_by}
+use Rattle.lc_core.specs.NodeState.{FollowsNode, FollowsReserve, HasSameRoom, StillFitsNode, WantsPlace, moved_by}
 use Rattle.lc_core.specs.NodeSteps.{IsOf, StepsNode, WantsOf, is_own}
 use Rattle.lc_core.specs.Nodes.{AreWhole}
 use Rattle.lc_core.specs.Numbers.{Numbers}
@@ -34,7 +34,7 @@ use Rattle.lc_core.specs.Stepping.{Wants, is_plain}
 use Rattle.lc_core.specs.Turns.{Turns}
 use Rattle.lc_core.specs.declared.desk.Desk.{Desk}
 use Rattle.lc_core.specs.declared.log.Log.{Log}
-use Rattle.lc_core.specs.declared.node.Node.{Node}
+use Rattle.lc_core.specs.declared.node_state.NodeState.{NodeState}
 use Rattle.lc_core.specs.declared.running.Running.{Running}
 use Rattle.lc_record.proofs.ListLemmas.{OnErr_from as on_err}
 use Rattle.lc_core.proofs.AtOnce.{stands}
@@ -115,7 +115,7 @@ module _ {D : Type 0} (a : Ghosts D) where
   plain_tells may fault unknown calls is reply old new its same = own_tells a may fault unknown calls is reply old new its (ap (area_of a) same)
 
   -- an event of one of its threads
-  pub desk_steps : (n node : ℕ) (event : Event) (own : ℕ → Event) (old : Node D a) (result : Result Reply AllocError) (new : Desk) → event ≡ own node → node ≡ n
+  pub desk_steps : (n node : ℕ) (event : Event) (own : ℕ → Event) (old : NodeState D a) (result : Result Reply AllocError) (new : Desk) → event ≡ own node → node ≡ n
       → IfOk result (λ reply. (k : ℕ) → FollowsOpen k old.desk (own k) reply new) → the_images.IsSameBeside old.desk.here new.here → vec_len new.seats ≡ vec_len old.desk.seats
       → OnErr result (WantsOf a n (own n) old) → OnErr result (StillFits old.desk new) → IfOk result (λ reply. may_answer (own n) reply ≡ true)
       → may_answer (own n) (Refused DeviceFault) ≡ false → may_answer (own n) (Refused Unknown) ≡ false
@@ -137,7 +137,7 @@ module _ {D : Type 0} (a : Ghosts D) where
       })
 
   -- a reservation that is closed
-  pub closed_steps : (n thread : ℕ) (old : Node D a) (reply : Reply) (new : Node D a) → FollowsNode a n (Close n thread) old reply new → HasSameRoom a old new → done_or is_turn reply ≡ true
+  pub closed_steps : (n thread : ℕ) (old : NodeState D a) (reply : Reply) (new : NodeState D a) → FollowsNode a n (Close n thread) old reply new → HasSameRoom a old new → done_or is_turn reply ≡ true
       → new.journal.log ≡ old.journal.log → StepsNode a n (Close n thread) old (Ok reply) new
   closed_steps n thread old reply new follows room names log = record {
     follows = λ m s x sound common fits sealed. follows m s x sound common fits;
@@ -150,7 +150,7 @@ module _ {D : Type 0} (a : Ghosts D) where
   }
 
   -- a transaction that gets its place
-  pub placed_steps : (n thread : ℕ) (old : Node D a) (result : Result Reply AllocError) (new : Node D a) → IfOk result (λ reply. FollowsReserve a n thread (is_sealed a old.journal.log) old reply new)
+  pub placed_steps : (n thread : ℕ) (old : NodeState D a) (result : Result Reply AllocError) (new : NodeState D a) → IfOk result (λ reply. FollowsReserve a n thread (is_sealed a old.journal.log) old reply new)
       → OnErr result (WantsPlace a n thread (is_sealed a old.journal.log) old) → OnErr result (StillFitsNode a old new) → HasSameRoom a old new → IfOk result (λ reply. may_reserve reply ≡ true)
       → new.journal.log ≡ old.journal.log → StepsNode a n (Reserve n thread) old result new
   placed_steps n thread old result new follows memory err room names log = record {
@@ -164,7 +164,7 @@ module _ {D : Type 0} (a : Ghosts D) where
   }
 
   -- what it wants memory for, the store does
-  pub wants_at : (w : Running D a) (n threads : ℕ) (event : Event) (node : Node D a) → slice_get w.nodes.items n ≡ Some node → is_failed a node.journal.log ≡ false → IsOf n threads event
+  pub wants_at : (w : Running D a) (n threads : ℕ) (event : Event) (node : NodeState D a) → slice_get w.nodes.items n ≡ Some node → is_failed a node.journal.log ≡ false → IsOf n threads event
       → WantsOf a n event node → Wants a w event
   wants_at w n threads (SetRange k thread segment offset len) node at up of wants = (node, ap (slice_get w.nodes.items) of.0 ∙ at, wants)
   wants_at w n threads (Read k thread segment offset len) node at up of wants = (node, ap (slice_get w.nodes.items) of.0 ∙ at, wants)
@@ -185,14 +185,14 @@ module _ {D : Type 0} (a : Ghosts D) where
   wants_at w n threads (Stop choices) node at up of wants = absurd wants
   wants_at w n threads RecoverStep node at up of wants = absurd wants
 
-  acts_up : (nodes : List (Node D a)) (o : Option Named) (n : ℕ) (node : Node D a) → Some n ≡ option_map (λ its. its.node) o → slice_get nodes n ≡ Some node → ActsRunning a o nodes
+  acts_up : (nodes : List (NodeState D a)) (o : Option Named) (n : ℕ) (node : NodeState D a) → Some n ≡ option_map (λ its. its.node) o → slice_get nodes n ≡ Some node → ActsRunning a o nodes
       → is_failed a node.journal.log ≡ false
   acts_up nodes None n node acts at runs = absurd cc
   acts_up nodes (Some its) n node acts at runs = runs node (ap (slice_get nodes) (sym (same_some n its.node acts)) ∙ at)
 
   -- the node that acts, where nothing is refused at once
   module _ (w : Running D a) (event : Event) (own : is_own event ≡ true) (is : is_known w.geometry event ≡ true) (runs : ActsRunning a (named event) w.nodes.items)
-      (n : ℕ) (acts : Some n ≡ option_map (λ its. its.node) (named event)) (node : Node D a) (read : node ≡ get_or w.nodes.items n node) where
+      (n : ℕ) (acts : Some n ≡ option_map (λ its. its.node) (named event)) (node : NodeState D a) (read : node ≡ get_or w.nodes.items n node) where
     there : slice_get w.nodes.items n ≡ Some node
     there = stands a w event is n acts node read
 
@@ -203,7 +203,7 @@ module _ {D : Type 0} (a : Ghosts D) where
     of_there = of_node w.geometry n (vec_len node.desk.seats) (w.whole n node there).seats event own is acts
 
     -- what it does, the store does
-    module _ (result : Result Reply AllocError) (new : Node D a) (steps : StepsNode a n event node result new) where
+    module _ (result : Result Reply AllocError) (new : NodeState D a) (steps : StepsNode a n event node result new) where
       pub whole_there : AreWhole a w.geometry (slice_set w.nodes.items n new)
       whole_there = whole_set a w.geometry w.nodes.items n node new there w.whole steps.room.seats steps.room.slots
 

@@ -29,7 +29,7 @@ use Rattle.lc_core.specs.Beside.{BesideSlots}
 use Rattle.lc_core.specs.Follows.{SameButLog}
 use Rattle.lc_core.specs.Here.{beside, number_in}
 use Rattle.lc_core.specs.Leaves.{HasToken, with_token}
-use Rattle.lc_core.specs.Node.{FitsNode, GoesOn}
+use Rattle.lc_core.specs.NodeState.{FitsNode, GoesOn}
 use Rattle.lc_core.specs.Numbers.{Numbers, token_number}
 use Rattle.lc_core.specs.Places.{get_set_other, get_set_same, same_some}
 use Rattle.lc_core.specs.Settled.{Settled, begun_number}
@@ -37,8 +37,8 @@ use Rattle.lc_core.specs.Slots.{Awaits, Besides, FitsSlot, FitsSlots, FitsToken,
 use Rattle.lc_core.specs.Turns.{cleaned, page_settled, settled_with, written}
 use Rattle.lc_core.specs.declared.desk.Desk.{Desk}
 use Rattle.lc_core.specs.declared.here.Here.{Here}
-use Rattle.lc_core.specs.declared.node.Node.{Node}
-use Rattle.lc_core.specs.declared.slot.Slot.{Slot}
+use Rattle.lc_core.specs.declared.node_state.NodeState.{NodeState}
+use Rattle.lc_core.specs.declared.segment_copy.SegmentCopy.{SegmentCopy}
 use Rattle.lc_core.proofs.Calling.{SameForLogs, journal_paged, logs_paged}
 use Rattle.lc_core.proofs.Emptying.{stays_itself}
 use Rattle.lc_core.proofs.Gained.{other_node, other_segment}
@@ -113,7 +113,7 @@ module _ (m : Setting) (s : State) (x : Numbers) (n segment page : ℕ) (text : 
 
   -- The node where it was written
 
-  module _ (within : page < m.geometry.pages) (first : 1 ≤ segment) (slot : Slot) (token after : Token) (is : IsWritten token page text.sequence after) where
+  module _ (within : page < m.geometry.pages) (first : 1 ≤ segment) (slot : SegmentCopy) (token after : Token) (is : IsWritten token page text.sequence after) where
     pub k_is : (segment - 1) + 1 ≡ segment
     k_is = omega (arith, first)
 
@@ -173,7 +173,7 @@ module _ (m : Setting) (s : State) (x : Numbers) (n segment page : ℕ) (text : 
               ∙ was ∙ sym (other_segment x.known n segment clean any differ)
         ]
 
-    unfoldable pub by_written : {D : Type 0} (a : Ghosts D) (old : Node D a) (new : Desk) (known : List ℕ) → slot.token.token ≡ Some token → s.place segment ≡ At n → FitsNode a m n old s x
+    unfoldable pub by_written : {D : Type 0} (a : Ghosts D) (old : NodeState D a) (new : Desk) (known : List ℕ) → slot.token.token ≡ Some token → s.place segment ≡ At n → FitsNode a m n old s x
         → HasToken segment slot (Some after) old.desk new → Sees old.known after known → Settled m s x (PageStep n segment page) (Written text.sequence)
         → GoesOn a m n (PageStep n segment page) s x (Written text.sequence) (record { desk = new; journal = old.journal; known = known })
     by_written a old new known stands here h moved sees settled =

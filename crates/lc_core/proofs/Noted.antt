@@ -24,12 +24,12 @@ use Rattle.lc_core.specs.Seats.{Runs, AllRun}
 use Rattle.lc_core.specs.Drafts.{NotesWritten}
 use Rattle.lc_core.specs.declared.desk.Desk.{Desk}
 use Rattle.lc_core.specs.declared.here.Here.{Here}
-use Rattle.lc_core.specs.declared.slot.Slot.{Slot}
+use Rattle.lc_core.specs.declared.segment_copy.SegmentCopy.{SegmentCopy}
 use Rattle.lc_core.proofs.Dropping.{seat_beside}
 
 -- the place with this standing in it, whose token has the same number
-module _ (here : Here) (k : ℕ) (slot : Slot) (at : slice_get here.slots.items k ≡ Some slot) (standing : Standing) (number : number_in standing.token ≡ number_in slot.token.token) where
-  abbrev next : Slot
+module _ (here : Here) (k : ℕ) (slot : SegmentCopy) (at : slice_get here.slots.items k ≡ Some slot) (standing : Standing) (number : number_in standing.token ≡ number_in slot.token.token) where
+  abbrev next : SegmentCopy
   next = record slot { token = standing }
 
   abbrev there : Here
@@ -95,17 +95,17 @@ written_number new old token page number stands is =
     ap number_in its.1 ∙ ap (λ (k : ℕ). Some k) its.2.seq ∙ sym (ap number_in stands)
 
 -- and of the desk
-pub notes_written : (old new : Desk) (segment page number : ℕ) (slot : Slot) (at : slice_get old.here.slots.items (segment - 1) ≡ Some slot) (standing : Standing) → standing.segment ≡ slot.token.segment
+pub notes_written : (old new : Desk) (segment page number : ℕ) (slot : SegmentCopy) (at : slice_get old.here.slots.items (segment - 1) ≡ Some slot) (standing : Standing) → standing.segment ≡ slot.token.segment
     → ForSome slot.token.token (λ t. IsSomeAnd standing.token (λ u. IsWritten t page number u)) → new.here ≡ record old.here { slots = with_item old.here.slots (segment - 1) (record slot { token = standing }) } → new.seats ≡ old.seats
     → NotesWritten segment page number old new
 notes_written old new segment page number slot at standing same is here_is seats_is other token got stands within =
     let own : slot ≡ other = same_some slot other (sym at ∙ got) in
-    let its = written_token standing.token slot.token.token token page number (ap (λ (v : Slot). v.token.token) own ∙ stands) is in
+    let its = written_token standing.token slot.token.token token page number (ap (λ (v : SegmentCopy). v.token.token) own ∙ stands) is in
     let standing_is : standing ≡ record slot.token { token = Some its.0 } =
     ap (λ (o : Option Token). record standing { token = o }) its.1 ∙ ap (λ (k : ℕ). let v : Standing = record { segment = k; token = Some its.0 } in v) same in (
       its.0,
       its.2,
-      subst (λ (v : Slot). HasToken segment v (Some its.0) old new) own (record {
+      subst (λ (v : SegmentCopy). HasToken segment v (Some its.0) old new) own (record {
         at = at;
         here = here_is ∙ ap (λ (v : Standing). record old.here { slots = with_item old.here.slots (segment - 1) (record slot { token = v }) }) standing_is;
         seats = seats_is;
@@ -113,7 +113,7 @@ notes_written old new segment page number slot at standing same is here_is seats
     )
 
 -- no token stands in the slot, or the page is none of its
-pub notes_nothing : (old new : Desk) (segment page number : ℕ) (slot : Slot) → slice_get old.here.slots.items (segment - 1) ≡ Some slot → ((token : Token) → slot.token.token ≡ Some token → page < length token.pages → ⊥)
+pub notes_nothing : (old new : Desk) (segment page number : ℕ) (slot : SegmentCopy) → slice_get old.here.slots.items (segment - 1) ≡ Some slot → ((token : Token) → slot.token.token ≡ Some token → page < length token.pages → ⊥)
     → NotesWritten segment page number old new
 notes_nothing old new segment page number slot at none other token got stands within =
-    absurd (none token (ap (λ (v : Slot). v.token.token) (same_some slot other (sym at ∙ got)) ∙ stands) within)
+    absurd (none token (ap (λ (v : SegmentCopy). v.token.token) (same_some slot other (sym at ∙ got)) ∙ stands) within)

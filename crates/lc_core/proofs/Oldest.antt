@@ -5,7 +5,7 @@ use Rattle.std.specs.Option.{unwrap_or}
 use Rattle.std.proofs.lemmas.Bool.{cases_lt}
 use Rattle.lc_record.specs.Marks.{counting}
 use Rattle.lc_page.specs.PageVector.{entry_at, is_dirty as is_dirty_entry}
-use Rattle.lc_page.specs.declared.entry.Entry.{Entry}
+use Rattle.lc_page.specs.declared.page_entry.PageEntry.{PageEntry}
 use Rattle.lc_token.specs.Token.{IsReached, least_with}
 use Rattle.lc_core.specs.Numbers.{Numbers, stable}
 use Rattle.lc_core.specs.Turns.{is_dirty, oldest_dirty}
@@ -89,7 +89,7 @@ module _ (x : Numbers) (segment : ℕ) where
       (subst (λ (to : ℕ). IsOldest (from + 1) to (oldest_dirty x segment (counting (from + 1) n))) same (oldest_is (from + 1) n))
 
   -- what entries that say the same have reached
-  pub reached_is : (pages seq reached : ℕ) (entries : List Entry) → length entries ≡ pages → pages ≤ 2 ^ 32
+  pub reached_is : (pages seq reached : ℕ) (entries : List PageEntry) → length entries ≡ pages → pages ≤ 2 ^ 32
       → ((page : ℕ) → page < pages → is_dirty_entry (entry_at entries page) ≡ is_dirty x segment page)
       → ((page : ℕ) → page < pages → (entry_at entries page).stable ≡ stable x segment page)
       → IsReached seq entries reached → unwrap_or (oldest_dirty x segment (counting 0 pages)) seq ≡ reached

@@ -15,7 +15,7 @@ use Rattle.lc_model.specs.declared.reply.Reply.{Reply}
 use Rattle.lc_model.specs.declared.reply.Reply.TheVariants.{Stepped, Recovered}
 use Rattle.lc_recover.specs.Reads.{area_count}
 use Rattle.lc_recover.specs.Recovery.{Recovering, IsDone, IsMergeNext, Tells, all_steps}
-use Rattle.lc_recover.specs.Stage.{OneCall}
+use Rattle.lc_recover.specs.RecoveryPhase.{OneCall}
 use Rattle.lc_recover.specs.Steps.{first_steps}
 use Rattle.lc_recover.specs.declared.fault.RecoverFault.{RecoverFault}
 use Rattle.lc_recover.specs.declared.fault.RecoverFault.TheVariants.{BadGeometry, Gap, Twice, OutOfSegment, DeviceFault as Failed, NoMemory}
@@ -33,10 +33,10 @@ use Rattle.lc_core.specs.Places.{get_set_other, get_set_same, same_some}
 use Rattle.lc_core.specs.Recovering.{ComesUp, RepliesTo}
 use Rattle.lc_core.specs.Stepping.{is_plain}
 use Rattle.lc_core.specs.Stops.{HasAreas}
-use Rattle.lc_core.specs.declared.node.Node.{Node}
+use Rattle.lc_core.specs.declared.node_state.NodeState.{NodeState}
 use Rattle.lc_core.specs.declared.pages.Pages.{Pages}
-use Rattle.lc_core.specs.declared.phase.Phase.{Phase}
-use Rattle.lc_core.specs.declared.phase.Phase.TheVariants.{Down, Up}
+use Rattle.lc_core.specs.declared.world_phase.WorldPhase.{WorldPhase}
+use Rattle.lc_core.specs.declared.world_phase.WorldPhase.TheVariants.{Down, Up}
 use Rattle.lc_core.specs.declared.up.Up.{Up as Rising}
 use Rattle.lc_core.proofs.CallsTold.{log_called_by, plain_calls, step_free, step_other}
 use Rattle.lc_core.proofs.Failures.{StepCalls}
@@ -51,29 +51,29 @@ set_drop (x ∷ xs) (suc n) k y =
     set_drop xs n k y ∙ ap (λ (i : ℕ). drop (suc n) (slice_set (x ∷ xs) i y)) next
 
 module _ {D : Type 0} (a : Ghosts D) where
-  pub calls_none : (phase : Phase D a) (event : Event) (reply : Reply) → ((g : Geometry) → calls_area g event reply ≡ false) → CallsArea a phase event reply phase
+  pub calls_none : (phase : WorldPhase D a) (event : Event) (reply : Reply) → ((g : Geometry) → calls_area g event reply ≡ false) → CallsArea a phase event reply phase
   calls_none phase event reply none g areas has = (areas, has, subst (λ (b : Bool). CallsWhere a b g event areas areas) (sym (none g)) refl)
 
   -- at their places, as far as there are logs
   abbrev LogsAre : List (Option D) → List D → Type 0
   LogsAre logs areas = (n : ℕ) (o : Option D) → slice_get logs n ≡ Some o → o ≡ slice_get areas n
 
-  got_log : (nodes : List (Node D a)) (n : ℕ) (node : Node D a) → slice_get nodes n ≡ Some node → slice_get (areas_in a nodes) n ≡ Some (area_of a node.journal.log)
+  got_log : (nodes : List (NodeState D a)) (n : ℕ) (node : NodeState D a) → slice_get nodes n ≡ Some node → slice_get (areas_in a nodes) n ≡ Some (area_of a node.journal.log)
   got_log nodes n node at =
       slice_get-map (area_of a) (logs_of a nodes) n
-      ∙ ap (option_map (area_of a)) (slice_get-map (λ (its : Node D a). its.journal.log) nodes n ∙ ap (option_map (λ (its : Node D a). its.journal.log)) at)
+      ∙ ap (option_map (area_of a)) (slice_get-map (λ (its : NodeState D a). its.journal.log) nodes n ∙ ap (option_map (λ (its : NodeState D a). its.journal.log)) at)
 
-  logs_at : (nodes : List (Node D a)) (areas : List D) → ((n : ℕ) (node : Node D a) → slice_get nodes n ≡ Some node → area_of a node.journal.log ≡ slice_get areas n) → LogsAre (areas_in a nodes) areas
-  logs_at nodes areas each n o got = elim (slice_get nodes n) as (λ (v : Option (Node D a)). slice_get nodes n ≡ v → o ≡ slice_get areas n) [
+  logs_at : (nodes : List (NodeState D a)) (areas : List D) → ((n : ℕ) (node : NodeState D a) → slice_get nodes n ≡ Some node → area_of a node.journal.log ≡ slice_get areas n) → LogsAre (areas_in a nodes) areas
+  logs_at nodes areas each n o got = elim (slice_get nodes n) as (λ (v : Option (NodeState D a)). slice_get nodes n ≡ v → o ≡ slice_get areas n) [
     | None ↦ λ none.
         absurd (let no : None ≡ Some o =
-        ap (λ (v : Option (Node D a)). option_map (area_of a) (option_map (λ (its : Node D a). its.journal.log) v)) (sym none)
-        ∙ ap (option_map (area_of a)) (sym (slice_get-map (λ (its : Node D a). its.journal.log) nodes n)) ∙ sym (slice_get-map (area_of a) (logs_of a nodes) n) ∙ got in cc)
+        ap (λ (v : Option (NodeState D a)). option_map (area_of a) (option_map (λ (its : NodeState D a). its.journal.log) v)) (sym none)
+        ∙ ap (option_map (area_of a)) (sym (slice_get-map (λ (its : NodeState D a). its.journal.log) nodes n)) ∙ sym (slice_get-map (area_of a) (logs_of a nodes) n) ∙ got in cc)
     | Some node ↦ λ there. same_some o (area_of a node.journal.log) (sym got ∙ got_log nodes n node there) ∙ each n node there
   ] refl
 
-  count_in : (nodes : List (Node D a)) → length (areas_in a nodes) ≡ length nodes
-  count_in nodes = length-map (logs_of a nodes) (area_of a) ∙ length-map nodes (λ (its : Node D a). its.journal.log)
+  count_in : (nodes : List (NodeState D a)) → length (areas_in a nodes) ≡ length nodes
+  count_in nodes = length-map (logs_of a nodes) (area_of a) ∙ length-map nodes (λ (its : NodeState D a). its.journal.log)
 
   set_logs : (logs : List (Option D)) (areas : List D) (at : ℕ) (old new : D) → LogsAre logs areas → slice_get logs at ≡ Some (Some old) → LogsAre (slice_set logs at (Some new)) (slice_set areas at new)
   set_logs logs areas at old new are was n o got = elim (cases_eq n at) [
@@ -205,15 +205,15 @@ module _ {D : Type 0} (a : Ghosts D) where
       its node segment page old new at set same g areas has (tells_call reply) (not (is_fault reply)) called,
     )
 
-  pub up_keeps : (phase : Phase D a) (up later : Rising D a) → phase ≡ Up up → KeepsAreas a (Up up) (Up later) → KeepsAreas a phase (Up later)
-  up_keeps phase up later is keeps = subst (λ (p : Phase D a). KeepsAreas a p (Up later)) (sym is) keeps
+  pub up_keeps : (phase : WorldPhase D a) (up later : Rising D a) → phase ≡ Up up → KeepsAreas a (Up up) (Up later) → KeepsAreas a phase (Up later)
+  up_keeps phase up later is keeps = subst (λ (p : WorldPhase D a). KeepsAreas a p (Up later)) (sym is) keeps
 
   -- of a recovery that is as it was
-  pub down_keeps : (phase : Phase D a) (r new : Recovering D) → phase ≡ Down r → new ≡ r → KeepsAreas a phase (Down new)
-  down_keeps phase r new is same = subst (λ (p : Phase D a). KeepsAreas a p (Down new)) (sym is) (subst (λ (v : Recovering D). KeepsAreas a (Down r) (Down v)) (sym same) (λ g areas has. has))
+  pub down_keeps : (phase : WorldPhase D a) (r new : Recovering D) → phase ≡ Down r → new ≡ r → KeepsAreas a phase (Down new)
+  down_keeps phase r new is same = subst (λ (p : WorldPhase D a). KeepsAreas a p (Down new)) (sym is) (subst (λ (v : Recovering D). KeepsAreas a (Down r) (Down v)) (sym same) (λ g areas has. has))
 
-  pub up_calls : (phase : Phase D a) (up later : Rising D a) (event : Event) (reply : Reply) → phase ≡ Up up → CallsArea a (Up up) event reply (Up later) → CallsArea a phase event reply (Up later)
-  up_calls phase up later event reply is calls = subst (λ (p : Phase D a). CallsArea a p event reply (Up later)) (sym is) calls
+  pub up_calls : (phase : WorldPhase D a) (up later : Rising D a) (event : Event) (reply : Reply) → phase ≡ Up up → CallsArea a (Up up) event reply (Up later) → CallsArea a phase event reply (Up later)
+  up_calls phase up later event reply is calls = subst (λ (p : WorldPhase D a). CallsArea a p event reply (Up later)) (sym is) calls
 
   -- A recovery
 
@@ -262,20 +262,20 @@ module _ {D : Type 0} (a : Ghosts D) where
     recovery_called (Ok HasRecovered) answer replies calls counted tells = if_ok_at answer _ _ replies (made (Ok HasRecovered) calls (done_apart tells counted) (λ e. absurd cc))
     recovery_called (Err fault) answer replies calls counted tells = fault_called fault answer replies calls
 
-    pub down_calls : (phase : Phase D a) → phase ≡ Down r → {E : Type 0} (result : Result Progress RecoverFault) (answer : Result Reply E) → RepliesTo result answer → StepCalls a r new result
+    pub down_calls : (phase : WorldPhase D a) → phase ≡ Down r → {E : Type 0} (result : Result Progress RecoverFault) (answer : Result Reply E) → RepliesTo result answer → StepCalls a r new result
         → OnOk result (new.steps ≡ r.steps + 1) → IfOk result (λ progress. Tells progress new) → IfOk answer (λ reply. CallsArea a phase RecoverStep reply (Down new))
     down_calls phase is result answer replies calls counted tells = IfOk-weaker answer _ _
-        (λ reply told. subst (λ (p : Phase D a). CallsArea a p RecoverStep reply (Down new)) (sym is) (λ g areas has. (
+        (λ reply told. subst (λ (p : WorldPhase D a). CallsArea a p RecoverStep reply (Down new)) (sym is) (λ g areas has. (
           new.areas,
           (has.0 ∙ sym geometry, refl),
           subst (λ (l : List D). CallsTold a g RecoverStep reply l new.areas) (sym has.1) (subst (λ (v : Geometry). CallsTold a v RecoverStep reply r.areas new.areas) (sym has.0) told),
         )))
         (recovery_called result answer replies calls counted tells)
 
-    pub risen_calls : (phase risen : Phase D a) → phase ≡ Down r → (result : Result Progress RecoverFault) → ((fault : RecoverFault) → result ≡ Err fault → ⊥) → StepCalls a r new result → (IsMergeNext r → ⊥) → (up : Rising D a) → risen ≡ Up up → ComesUp a new up
+    pub risen_calls : (phase risen : WorldPhase D a) → phase ≡ Down r → (result : Result Progress RecoverFault) → ((fault : RecoverFault) → result ≡ Err fault → ⊥) → StepCalls a r new result → (IsMergeNext r → ⊥) → (up : Rising D a) → risen ≡ Up up → ComesUp a new up
         → CallsArea a phase RecoverStep Recovered risen
-    risen_calls phase risen is result well calls other up rises came = subst (λ (p : Phase D a). CallsArea a p RecoverStep Recovered risen) (sym is)
-        (subst (λ (p : Phase D a). CallsArea a (Down r) RecoverStep Recovered p) (sym rises) (λ g areas has. (
+    risen_calls phase risen is result well calls other up rises came = subst (λ (p : WorldPhase D a). CallsArea a p RecoverStep Recovered risen) (sym is)
+        (subst (λ (p : WorldPhase D a). CallsArea a (Down r) RecoverStep Recovered p) (sym rises) (λ g areas has. (
           new.areas,
           (
             has.0 ∙ sym (came.same_geometry ∙ geometry),

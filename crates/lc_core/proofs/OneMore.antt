@@ -16,8 +16,8 @@ use Rattle.lc_core.specs.Asks.{may_grow}
 use Rattle.lc_core.specs.Stepping.{AsksMemory}
 use Rattle.lc_core.specs.World.{AsksAtAll, AsksIn, AsksWorld, FitsWorld, FollowsWorld, StillFitsWorld}
 use Rattle.lc_core.specs.Turns.{Turns}
-use Rattle.lc_core.specs.declared.phase.Phase.{Phase}
-use Rattle.lc_core.specs.declared.phase.Phase.TheVariants.{Down, Up, Taken}
+use Rattle.lc_core.specs.declared.world_phase.WorldPhase.{WorldPhase}
+use Rattle.lc_core.specs.declared.world_phase.WorldPhase.TheVariants.{Down, Up, Taken}
 use Rattle.lc_core.specs.declared.world.World.{World}
 
 runs_on_more : (m : Setting) (s : State) (x : Numbers) (events : List Event) (replies : List Reply) (mid : State) (between : Numbers) (event : Event) (reply : Reply) (after : State) (next : Numbers) → RunsOn m s x events replies mid between → Step m mid event reply after → Settled m mid between event reply → Turns m mid between event reply next → RunsOn m s x (events ++ event ∷ []) (replies ++ reply ∷ []) after next
@@ -68,7 +68,7 @@ module _ {D : Type 0} (a : Ghosts D) where
       (so_far.0, so_far.1, so_far.2, still m so_far.0 so_far.1 so_far.3)
 
   -- whatever it fits, only these events want memory
-  grows : (phase : Phase D a) (event : Event) → AsksIn a phase event → may_grow event ≡ true
+  grows : (phase : WorldPhase D a) (event : Event) → AsksIn a phase event → may_grow event ≡ true
   grows (Down r) event = elim event as (λ (e : Event). AsksAtAll a r e → may_grow e ≡ true) [
     | RecoverStep ↦ λ asks. refl
     | _ ↦ λ asks. absurd asks

@@ -15,13 +15,13 @@ use Rattle.lc_core.specs.Beside.{BesideNode}
 use Rattle.lc_core.specs.FollowsDesk.{StillFits}
 use Rattle.lc_core.specs.Here.{the_images}
 use Rattle.lc_core.specs.declared.desk.Desk.{Desk}
-use Rattle.lc_core.specs.Node.{FitsNode, GoesOn, moved_by}
+use Rattle.lc_core.specs.NodeState.{FitsNode, GoesOn, moved_by}
 use Rattle.lc_core.specs.Numbers.{Numbers}
 use Rattle.lc_core.specs.Places.{get_set_other, get_set_same, same_some}
 use Rattle.lc_core.specs.Nodes.{IsWhole, AreWhole}
 use Rattle.lc_core.specs.Running.{FitsAll, FitsTravelling, Onward}
 use Rattle.lc_core.specs.Slots.{besides_of}
-use Rattle.lc_core.specs.declared.node.Node.{Node}
+use Rattle.lc_core.specs.declared.node_state.NodeState.{NodeState}
 use Rattle.lc_core.proofs.CoherentSteps.{coherent_keeps, disks_keep}
 use Rattle.lc_core.proofs.Going.{slots_alike}
 use Rattle.lc_core.proofs.OtherLogs.{log_beside}
@@ -30,18 +30,18 @@ use Rattle.lc_core.proofs.Slotted.{places_at, slots_beside}
 
 module _ {D : Type 0} (a : Ghosts D) where
   -- what a write to one place leaves of a fact on each
-  pub each_set : {P Q : ℕ → Node D a → Type 0} (nodes : List (Node D a)) (n : ℕ) (old new : Node D a) → slice_get nodes n ≡ Some old
-      → ((k : ℕ) (node : Node D a) → slice_get nodes k ≡ Some node → P k node) → Q n new → ((k : ℕ) (node : Node D a) → (k ≡ n → ⊥) → P k node → Q k node)
-      → (k : ℕ) (node : Node D a) → slice_get (slice_set nodes n new) k ≡ Some node → Q k node
+  pub each_set : {P Q : ℕ → NodeState D a → Type 0} (nodes : List (NodeState D a)) (n : ℕ) (old new : NodeState D a) → slice_get nodes n ≡ Some old
+      → ((k : ℕ) (node : NodeState D a) → slice_get nodes k ≡ Some node → P k node) → Q n new → ((k : ℕ) (node : NodeState D a) → (k ≡ n → ⊥) → P k node → Q k node)
+      → (k : ℕ) (node : NodeState D a) → slice_get (slice_set nodes n new) k ≡ Some node → Q k node
   each_set {P} {Q} nodes n old new at all own others k node got = elim (cases_eq k n) [
     | inl is ↦
         subst (λ (i : ℕ). Q i node) (sym is)
-        (subst (λ (w : Node D a). Q n w) (same_some new node (sym (get_set_same nodes n old new at) ∙ sym (ap (slice_get (slice_set nodes n new)) is) ∙ got)) own)
+        (subst (λ (w : NodeState D a). Q n w) (same_some new node (sym (get_set_same nodes n old new at) ∙ sym (ap (slice_get (slice_set nodes n new)) is) ∙ got)) own)
     | inr differ ↦ others k node differ (all k node (sym (get_set_other nodes n k new differ) ∙ got))
   ]
 
   -- another node fits as before
-  pub node_beside : (m : Setting) (n k : ℕ) (s : State) (x : Numbers) (after : State) (next : Numbers) (node : Node D a) → (k ≡ n → ⊥) → BesideNode m n s x after next
+  pub node_beside : (m : Setting) (n k : ℕ) (s : State) (x : Numbers) (after : State) (next : Numbers) (node : NodeState D a) → (k ≡ n → ⊥) → BesideNode m n s x after next
       → FitsNode a m k node s x → FitsNode a m k node after next
   node_beside m n k s x after next node differ aside h = record {
     desk = desk_beside m n k s after differ aside.desks node.desk.here node.desk.seats.items h.desk node.desk.runs;
@@ -52,14 +52,14 @@ module _ {D : Type 0} (a : Ghosts D) where
     known = λ segment first last. h.known segment first last ∙ sym (aside.known k segment differ);
   }
 
-  pub whole_set : (g : Geometry) (nodes : List (Node D a)) (n : ℕ) (old new : Node D a) → slice_get nodes n ≡ Some old → AreWhole a g nodes
+  pub whole_set : (g : Geometry) (nodes : List (NodeState D a)) (n : ℕ) (old new : NodeState D a) → slice_get nodes n ≡ Some old → AreWhole a g nodes
       → vec_len new.desk.seats ≡ vec_len old.desk.seats → vec_len new.desk.here.slots ≡ vec_len old.desk.here.slots → AreWhole a g (slice_set nodes n new)
   whole_set g nodes n old new at all seats slots =
       let its = all n old at in
       each_set {P = λ k node. IsWhole a g node} {Q = λ k node. IsWhole a g node} nodes n old new at all (record { seats = seats ∙ its.seats; slots = slots ∙ its.slots }) (λ k node differ whole. whole)
 
-  module _ (m : Setting) (n : ℕ) (event : Event) (s : State) (x : Numbers) (reply : Reply) (geometry : Geometry) (nodes : List (Node D a)) (travelling : List (Option Token))
-      (h : FitsAll a m geometry nodes travelling s x) (common : common_refusal m.geometry s event ≡ None) (old : Node D a) (at : slice_get nodes n ≡ Some old) (new : Node D a)
+  module _ (m : Setting) (n : ℕ) (event : Event) (s : State) (x : Numbers) (reply : Reply) (geometry : Geometry) (nodes : List (NodeState D a)) (travelling : List (Option Token))
+      (h : FitsAll a m geometry nodes travelling s x) (common : common_refusal m.geometry s event ≡ None) (old : NodeState D a) (at : slice_get nodes n ≡ Some old) (new : NodeState D a)
       (goes : GoesOn a m n event s x reply new) where
     unfoldable pub onward : (late : List (Option Token)) → FitsTravelling m late goes.after goes.next → Onward a m event s x reply geometry (slice_set nodes n new) late
     onward late on_the_way = let step = step-row m s event reply goes.after common goes.row in record {
@@ -97,7 +97,7 @@ module _ {D : Type 0} (a : Ghosts D) where
     stays_onward others = onward travelling (travel_on others)
 
   -- want of memory
-  pub still_onward : (m : Setting) (n : ℕ) (s : State) (x : Numbers) (geometry : Geometry) (nodes : List (Node D a)) (travelling : List (Option Token)) (old new : Node D a) → slice_get nodes n ≡ Some old
+  pub still_onward : (m : Setting) (n : ℕ) (s : State) (x : Numbers) (geometry : Geometry) (nodes : List (NodeState D a)) (travelling : List (Option Token)) (old new : NodeState D a) → slice_get nodes n ≡ Some old
       → (FitsNode a m n old s x → FitsNode a m n new s x) → FitsAll a m geometry nodes travelling s x → FitsAll a m geometry (slice_set nodes n new) travelling s x
   still_onward m n s x geometry nodes travelling old new at still h = record {
     geometry_is = h.geometry_is;
@@ -109,7 +109,7 @@ module _ {D : Type 0} (a : Ghosts D) where
     on_the_way = h.on_the_way;
   }
 
-  pub desk_still : (m : Setting) (n : ℕ) (s : State) (x : Numbers) (old : Node D a) (new : Desk) → StillFits old.desk new → the_images.IsSameBeside old.desk.here new.here
+  pub desk_still : (m : Setting) (n : ℕ) (s : State) (x : Numbers) (old : NodeState D a) (new : Desk) → StillFits old.desk new → the_images.IsSameBeside old.desk.here new.here
       → FitsNode a m n old s x → FitsNode a m n (record { desk = new; journal = old.journal; known = old.known }) s x
   desk_still m n s x old new still beside h = record {
     desk = still m n s h.desk;

@@ -14,7 +14,7 @@ use Rattle.lc_core.specs.Fresh.{IsFresh}
 use Rattle.lc_core.specs.Log.{Stands, area_of, is_idle}
 use Rattle.lc_core.specs.Nodes.{AreWhole}
 use Rattle.lc_core.specs.Places.{same_some}
-use Rattle.lc_core.specs.declared.node.Node.{Node}
+use Rattle.lc_core.specs.declared.node_state.NodeState.{NodeState}
 use Rattle.lc_core.specs.declared.running.Running.{Running}
 use Rattle.lc_core.specs.Seat.{Free}
 
@@ -67,7 +67,7 @@ module _ {D : Type 0} (a : Ghosts D) where
   pub log_clean : (r : RecoveredStore D) (n : ℕ) (area first : D) → AreFinished a r → slice_get r.areas n ≡ Some area → first ≡ area → a.honest first ≡ true → a.dirty first 0 ≡ false
   log_clean r n area first finished got same honest = subst (λ (d : D). a.dirty d 0 ≡ false) (sym same) ((finished n area got (ap a.honest (sym same) ∙ honest)).clean 0)
 
-  pub filled_whole : (r : RecoveredStore D) (g : Geometry) (nodes : List (Node D a)) → r.geometry ≡ g → AreFilledNodes a r nodes → AreWhole a g nodes
+  pub filled_whole : (r : RecoveredStore D) (g : Geometry) (nodes : List (NodeState D a)) → r.geometry ≡ g → AreFilledNodes a r nodes → AreWhole a g nodes
   filled_whole r g nodes same filled n node got =
       let its = filled n node got in
       let seats = ap length its.desk.seats ∙ length-replicate r.geometry.threads Free in
@@ -78,10 +78,10 @@ module _ {D : Type 0} (a : Ghosts D) where
       let segments = ap (λ (h : Geometry). h.segments) same in
       record { seats = omega (arith, seats, seats_ok, threads); slots = omega (arith, slots, slots_ok, segments) }
 
-  pub filled_fresh : (r : RecoveredStore D) (w : Running D a) (nodes : List (Node D a)) → r.geometry ≡ w.geometry → w.nodes.items ≡ nodes → AreFilledNodes a r nodes
-      → ((n : ℕ) (node : Node D a) → slice_get nodes n ≡ Some node → area_of a node.journal.log ≡ slice_get r.areas n)
-      → ((n : ℕ) (node : Node D a) → slice_get nodes n ≡ Some node → Stands a node.journal.log 0 [] [])
-      → ((n : ℕ) (node : Node D a) → slice_get nodes n ≡ Some node → is_idle a node.journal.log ≡ true)
+  pub filled_fresh : (r : RecoveredStore D) (w : Running D a) (nodes : List (NodeState D a)) → r.geometry ≡ w.geometry → w.nodes.items ≡ nodes → AreFilledNodes a r nodes
+      → ((n : ℕ) (node : NodeState D a) → slice_get nodes n ≡ Some node → area_of a node.journal.log ≡ slice_get r.areas n)
+      → ((n : ℕ) (node : NodeState D a) → slice_get nodes n ≡ Some node → Stands a node.journal.log 0 [] [])
+      → ((n : ℕ) (node : NodeState D a) → slice_get nodes n ≡ Some node → is_idle a node.journal.log ≡ true)
       → w.travelling.items ≡ replicate w.geometry.segments None → IsFresh a r w
   filled_fresh r w nodes same are filled areas logs works none =
       let count = w.all_nodes in
@@ -90,7 +90,7 @@ module _ {D : Type 0} (a : Ghosts D) where
       record {
         geometry = sym same;
         count = omega (arith, count, len, number);
-        each = λ n node got. (let at : slice_get nodes n ≡ Some node = ap (λ (l : List (Node D a)). slice_get l n) (sym are) ∙ got in let its = filled n node at in record {
+        each = λ n node got. (let at : slice_get nodes n ≡ Some node = ap (λ (l : List (NodeState D a)). slice_get l n) (sym are) ∙ got in let its = filled n node at in record {
           seats = its.desk.seats;
           slots_count = its.desk.count;
           slots = its.slots;

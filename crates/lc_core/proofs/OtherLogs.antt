@@ -21,13 +21,13 @@ use Rattle.lc_core.specs.Follows.{SameButLog}
 use Rattle.lc_core.specs.FollowsDesk.{SameButOpen}
 use Rattle.lc_core.specs.Journal.{FitsLog}
 use Rattle.lc_core.specs.Numbers.{Numbers}
-use Rattle.lc_core.specs.Records.{Kept}
+use Rattle.lc_core.specs.Records.{KeptRecords}
 use Rattle.lc_core.specs.declared.log.Log.{Log}
 use Rattle.lc_core.proofs.Appending.{filter-end}
 use Rattle.lc_core.proofs.Closes.{entries_shut, shut}
 
 pub log_beside : {D : Type 0} (a : Ghosts D) (m : Setting) (node other : ℕ) (old : State) (x : Numbers) (new : State) (y : Numbers) → other ≢ node → BesideLogs m node old x new y
-    → (log : Log D a) (kept : Kept) (dropped trimmed taken acked : ℕ) → FitsLog a m other log kept dropped trimmed taken acked old x → FitsLog a m other log kept dropped trimmed taken acked new y
+    → (log : Log D a) (kept : KeptRecords) (dropped trimmed taken acked : ℕ) → FitsLog a m other log kept dropped trimmed taken acked old x → FitsLog a m other log kept dropped trimmed taken acked new y
 log_beside a m node other old x new y differ beside log kept dropped trimmed taken acked h = record {
   words = rw (beside.records other differ) h.words;
   marks = rw (beside.marks other differ) h.marks;

@@ -4,7 +4,7 @@ use Rattle.std.specs.Prelude.{◌^◌, max, is_some, nat_lt, slice_set, if◌the
 use Rattle.std.specs.Option.{unwrap_or}
 use Rattle.std.proofs.Math.Nat.{le-max_left, le_refl, le_trans, max-le, min-eq_left, min-eq_right}
 use Rattle.std.proofs.lemmas.Bool.{cases_eq, cases_lt, le-ltb, lt-ltb}
-use Rattle.lc_page.specs.declared.entry.Entry.{Entry}
+use Rattle.lc_page.specs.declared.page_entry.PageEntry.{PageEntry}
 use Rattle.lc_page.specs.PageVector.{entry_at, is_dirty, no_entry, settled, settled_text}
 use Rattle.lc_core.specs.Settled.{begun_number}
 use Rattle.lc_record.specs.Marks.{counting}
@@ -110,7 +110,7 @@ oldest_is x segment (suc count) first = oldest_next x segment first count (oldes
 abbrev reached_of : Numbers → ℕ → ℕ → ℕ → ℕ
 reached_of x segment count seq = unwrap_or (oldest_dirty x segment (counting 0 count)) seq
 
-reached_is : (m : Setting) (x : Numbers) (segment seq : ℕ) (pages : List Entry) → length pages ≡ m.geometry.pages → m.geometry.pages ≤ 2 ^ 32
+reached_is : (m : Setting) (x : Numbers) (segment seq : ℕ) (pages : List PageEntry) → length pages ≡ m.geometry.pages → m.geometry.pages ≤ 2 ^ 32
     → ((page : ℕ) → page < m.geometry.pages → ((entry_at pages page).stable ≡ stable x segment page) × ((entry_at pages page).touched ≡ x.touched segment page))
     → IsReached seq pages (reached_of x segment m.geometry.pages seq)
 reached_is m x segment seq pages count few are = by_oldest (oldest_dirty x segment (counting 0 m.geometry.pages)) (oldest_is x segment m.geometry.pages 0)
@@ -163,10 +163,10 @@ module _ (m : Setting) (s : State) (x : Numbers) (node segment page : ℕ) (firs
     newest = (h.writes segment page).within text begun
 
     -- the entries after it
-    abbrev before : List Entry
+    abbrev before : List PageEntry
     before = entries_of m.geometry x segment
 
-    abbrev behind : List Entry
+    abbrev behind : List PageEntry
     behind = slice_set before page (settled (entry_at before page) text.sequence)
 
     in_list : page < length before
@@ -179,14 +179,14 @@ module _ (m : Setting) (s : State) (x : Numbers) (node segment page : ℕ) (firs
     entries_behind k within = elim (cases_eq k page) [
       | inl same ↦
           subst (λ (i : ℕ). ((entry_at behind i).stable ≡ stable put segment i) × ((entry_at behind i).touched ≡ x.touched segment i)) (sym same) (
-            ap (λ (e : Entry). e.stable) own_entry ∙ ap (λ (p : Page). p.sequence) (sym (entry_own x.disks.page segment page text)),
-            ap (λ (e : Entry). e.touched) own_entry ∙ ap (λ (e : Entry). e.touched) (entry_is m.geometry x segment page known),
+            ap (λ (e : PageEntry). e.stable) own_entry ∙ ap (λ (p : Page). p.sequence) (sym (entry_own x.disks.page segment page text)),
+            ap (λ (e : PageEntry). e.touched) own_entry ∙ ap (λ (e : PageEntry). e.touched) (entry_is m.geometry x segment page known),
           )
       | inr other ↦
           let is = get_or-set_other before page k (settled (entry_at before page) text.sequence) no_entry other in
           let old = entry_is m.geometry x segment k within in (
-            ap (λ (e : Entry). e.stable) (is ∙ old) ∙ ap (λ (p : Page). p.sequence) (sym (entry_other x.disks.page segment page text segment k (λ one two. other two))),
-            ap (λ (e : Entry). e.touched) (is ∙ old),
+            ap (λ (e : PageEntry). e.stable) (is ∙ old) ∙ ap (λ (p : Page). p.sequence) (sym (entry_other x.disks.page segment page text segment k (λ one two. other two))),
+            ap (λ (e : PageEntry). e.touched) (is ∙ old),
           )
     ]
 
@@ -197,7 +197,7 @@ module _ (m : Setting) (s : State) (x : Numbers) (node segment page : ℕ) (firs
         (entries_count m.geometry put segment ∙ sym (length-set before page (settled (entry_at before page) text.sequence) ∙ entries_count m.geometry x segment))
         (λ k within.
         let is = entry_is m.geometry put segment k within in
-        (ap (λ (e : Entry). e.stable) is ∙ sym (entries_behind k within).0, ap (λ (e : Entry). e.touched) is ∙ sym (entries_behind k within).1))
+        (ap (λ (e : PageEntry). e.stable) is ∙ sym (entries_behind k within).0, ap (λ (e : PageEntry). e.touched) is ∙ sym (entries_behind k within).1))
         (token-written m s x.disks segment seq (x.clean segment) page reached text before token known opened newest
         (reached_is m put segment seq behind (length-set before page (settled (entry_at before page) text.sequence) ∙ entries_count m.geometry x segment) token.few entries_behind))
 
@@ -207,15 +207,15 @@ module _ (m : Setting) (s : State) (x : Numbers) (node segment page : ℕ) (firs
         (λ k within.
         let new = entry_is m.geometry put n k within in
         let old = entry_is m.geometry x n k within in (
-          ap (λ (e : Entry). e.stable) new ∙ ap (λ (p : Page). p.sequence) (entry_other x.disks.page segment page text n k (λ same two. differ same)) ∙ sym (ap (λ (e : Entry). e.stable) old),
-          ap (λ (e : Entry). e.touched) new ∙ sym (ap (λ (e : Entry). e.touched) old),
+          ap (λ (e : PageEntry). e.stable) new ∙ ap (λ (p : Page). p.sequence) (entry_other x.disks.page segment page text n k (λ same two. differ same)) ∙ sym (ap (λ (e : PageEntry). e.stable) old),
+          ap (λ (e : PageEntry). e.touched) new ∙ sym (ap (λ (e : PageEntry). e.touched) old),
         ))
         (token-fewer m s x.disks put.disks n (token_number s x n) (x.clean n) (entries_of m.geometry x n) (h.tokens n one most) refl (λ k z shows. shows-settled x.disks segment page text opened n k z shows))
 
     reached_low : reached ≤ seq
     reached_low = reached_most put segment m.geometry.pages seq (λ k within.
         let most = own_token.within k within in
-        let is = ap (λ (e : Entry). e.stable) (entry_is m.geometry put segment k within) in
+        let is = ap (λ (e : PageEntry). e.stable) (entry_is m.geometry put segment k within) in
         omega (arith, most, is))
 
     abbrev clean_now : Numbers

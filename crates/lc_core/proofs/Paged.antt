@@ -39,7 +39,7 @@ use Rattle.lc_core.specs.Drafts.{IsDraft, MayDraft}
 use Rattle.lc_core.specs.Follows.{FitsJournal}
 use Rattle.lc_core.specs.Here.{beside, image_at, number_at, number_in, the_images}
 use Rattle.lc_core.specs.Leaves.{HasToken}
-use Rattle.lc_core.specs.Node.{FitsNode, GoesOn}
+use Rattle.lc_core.specs.NodeState.{FitsNode, GoesOn}
 use Rattle.lc_core.specs.Numbers.{Numbers, sets_on, stable, token_number}
 use Rattle.lc_core.specs.Pages.{BeginsIn, FitsArea, FollowsBegin, FollowsNext, IsOfNow, StepsIn, TellsNumbers}
 use Rattle.lc_core.specs.Paging.{HaltsFailed}
@@ -51,13 +51,13 @@ use Rattle.lc_core.specs.Turns.{Turns, called, page_settled, written}
 use Rattle.lc_core.specs.declared.desk.Desk.{Desk}
 use Rattle.lc_core.specs.declared.here.Here.{Here}
 use Rattle.lc_core.specs.declared.journal.Journal.{Journal}
-use Rattle.lc_core.specs.declared.node.Node.{Node}
+use Rattle.lc_core.specs.declared.node_state.NodeState.{NodeState}
 use Rattle.lc_core.specs.declared.page_progress.PageProgress.TheVariants.{Stepped as HasStepped, Written as HasWritten}
 use Rattle.lc_core.specs.declared.page_state.PageState.{PageState}
 use Rattle.lc_core.specs.declared.page_state.PageState.TheVariants.{AtRest, UnderWay, Failed}
 use Rattle.lc_page.specs.declared.fault.PageFault.{PageFault}
 use Rattle.lc_core.specs.declared.pages.Pages.{Pages}
-use Rattle.lc_core.specs.declared.slot.Slot.{Slot}
+use Rattle.lc_core.specs.declared.segment_copy.SegmentCopy.{SegmentCopy}
 use Rattle.lc_core.proofs.Calling.{by_calls, called_same, nothing_called}
 use Rattle.lc_core.proofs.Emptying.{stays_itself, stays_or_halts}
 use Rattle.lc_core.proofs.NodeWritten.{by_written}
@@ -77,12 +77,12 @@ page_known g node segment page h =
     (leb-true 1 segment d.0, leb-true segment g.segments d.1, ltb-true page g.pages e.0)
 
 pub record Stood (here : Here) (segment : ℕ) : Type 0 where
-  pub slot : Slot
+  pub slot : SegmentCopy
   pub at : slice_get here.slots.items (segment - 1) ≡ Some slot
   pub token : Token
   pub stands : slot.token.token ≡ Some token
 
-pub stood : (here : Here) (segment : ℕ) → 1 ≤ segment → segment ≤ vec_len here.slots → ((slot : Slot) → slice_get here.slots.items (segment - 1) ≡ Some slot → IsSome slot.token.token) → Stood here segment
+pub stood : (here : Here) (segment : ℕ) → 1 ≤ segment → segment ≤ vec_len here.slots → ((slot : SegmentCopy) → slice_get here.slots.items (segment - 1) ≡ Some slot → IsSome slot.token.token) → Stood here segment
 stood here segment first within some =
     let its = some_at here.slots.items (segment - 1) (omega (arith, first, within, here.slots.ok.0)) in
     let token = some_token its.0.token.token (some its.0 its.1) in
@@ -97,11 +97,11 @@ others_failed olds page was state P at works all other got = elim (cases_eq othe
 ]
 
 module _ {D : Type 0} (a : Ghosts D) (m : Setting) (n segment page : ℕ) (s : State) (x : Numbers) (sound : Sound m.geometry s) (common : common_refusal m.geometry s (PageStep n segment page) ≡ None)
-    (old : Node D a) (h : FitsNode a m n old s x) (olds : Pages D a) (area : FitsArea a m.geometry segment olds x) where
+    (old : NodeState D a) (h : FitsNode a m n old s x) (olds : Pages D a) (area : FitsArea a m.geometry segment olds x) where
   abbrev event : Event
   event = PageStep n segment page
 
-  abbrev pub Goes : Reply → Node D a → Pages D a → Type 0
+  abbrev pub Goes : Reply → NodeState D a → Pages D a → Type 0
   Goes reply new news = (goes : GoesOn a m n event s x reply new) × FitsArea a m.geometry segment news goes.next × HaltsFailed a goes.after segment news
 
   its_known : (1 ≤ segment) × (segment ≤ m.geometry.segments) × (page < m.geometry.pages)
@@ -115,7 +115,7 @@ module _ {D : Type 0} (a : Ghosts D) (m : Setting) (n segment page : ℕ) (s : S
   unfolding by_calls
   page_stays reply may settled turns halts = (by_calls a m n event s x reply s x (stays_itself n s) (nothing_called x) (inl (may, refl)) settled turns old old.journal h refl refl h.journal, area, halts)
 
-  module _ (slot : Slot) (at : slice_get old.desk.here.slots.items (segment - 1) ≡ Some slot) where
+  module _ (slot : SegmentCopy) (at : slice_get old.desk.here.slots.items (segment - 1) ≡ Some slot) where
     number_there : the_images.number_of old.desk.here segment ≡ number_in slot.token.token
     number_there = ap (the_images.number_of old.desk.here) segment_is ∙ ap number_at at
 

@@ -30,8 +30,8 @@ use Rattle.lc_core.specs.World.{FitsPhase}
 use Rattle.lc_rest.specs.declared.node_part.NodePart.{NodePart}
 use Rattle.lc_core.specs.declared.node_piece.NodePiece.{NodePiece}
 use Rattle.lc_rest.specs.declared.parts.Parts.{Parts}
-use Rattle.lc_core.specs.declared.phase.Phase.{Phase}
-use Rattle.lc_core.specs.declared.phase.Phase.TheVariants.{Up}
+use Rattle.lc_core.specs.declared.world_phase.WorldPhase.{WorldPhase}
+use Rattle.lc_core.specs.declared.world_phase.WorldPhase.TheVariants.{Up}
 use Rattle.lc_rest.specs.declared.segment_part.SegmentPart.{SegmentPart}
 use Rattle.lc_core.specs.declared.segment_pieces.SegmentPieces.{SegmentPieces}
 use Rattle.lc_core.specs.declared.up.Up.{Up as UpStore}
@@ -152,7 +152,7 @@ module _ {D : Type 0} (a : Ghosts D) (parts : Parts D a) (h : Read) (segments : 
         numbers = numbers_of f;
         geometry = its.read.geometry;
         fits = λ honest.
-            subst (λ (p : Phase D a). FitsPhase a (machine_setting f) p (machine_state f) (numbers_of f)) (sym phase)
+            subst (λ (p : WorldPhase D a). FitsPhase a (machine_setting f) p (machine_state f) (numbers_of f)) (sym phase)
             (let its_up = adopted f (parts_found a parts h segments tokens pieces areas its honest (areas_read honest)) in
             (up-fits a f up (stood_consistent a parts h segments tokens pieces areas its) its_up, up-honest a f up its_up));
         quiet = record { up = refl; none_open = refl; all_closed = closed_all h.geometry (merged h); no_flush = λ n. refl; none_halted = λ n. refl };

@@ -26,7 +26,7 @@ use Rattle.lc_core.specs.Built.{IsPieceOf}
 use Rattle.lc_core.specs.Kept.{closed_record}
 use Rattle.lc_core.specs.Made.{AreFound, IsFoundArea, IsFoundNode, IsFoundSegment}
 use Rattle.lc_rest.specs.Parts.{AreHonest}
-use Rattle.lc_core.specs.Records.{Kept, marks_of}
+use Rattle.lc_core.specs.Records.{KeptRecords, marks_of}
 use Rattle.lc_core.specs.declared.node_piece.NodePiece.{NodePiece}
 use Rattle.lc_rest.specs.declared.parts.Parts.{Parts}
 use Rattle.lc_core.specs.declared.segment_piece.SegmentPiece.{SegmentPiece}
@@ -107,9 +107,9 @@ module _ {D : Type 0} (a : Ghosts D) (parts : Parts D a) (h : Read) (segments : 
         record {
           log = subst (λ (rs : List Record). IsIdle a piece.log.area piece.log.end rs) same (subst (λ l. IsIdle a l.area l.end keeps.stable) (sym of.log) keeps.log);
           honest = ap (λ l. a.honest l.area) of.log ∙ honest.0 n part.0 part.1;
-          before = ap (λ (k : Kept). k.before) of.records;
-          words = ap (λ (k : Kept). map (λ r. r.words) k.records) of.records ∙ words_closed (drop (h.dropped n) (log_of h n)) ∙ ap (λ (rs : List Record). map spelling (drop (h.dropped n) rs)) (sym own);
-          marks = ap (λ (k : Kept). marks_of k.records) of.records ∙ marks_closed (drop (h.dropped n) (log_of h n)) ∙ ap (λ (rs : List Record). map (λ (r : Record). true) (drop (h.dropped n) rs)) (sym own);
+          before = ap (λ (k : KeptRecords). k.before) of.records;
+          words = ap (λ (k : KeptRecords). map (λ r. r.words) k.records) of.records ∙ words_closed (drop (h.dropped n) (log_of h n)) ∙ ap (λ (rs : List Record). map spelling (drop (h.dropped n) rs)) (sym own);
+          marks = ap (λ (k : KeptRecords). marks_of k.records) of.records ∙ marks_closed (drop (h.dropped n) (log_of h n)) ∙ ap (λ (rs : List Record). map (λ (r : Record). true) (drop (h.dropped n) rs)) (sym own);
           stable = of.stable;
           round = of.round ∙ sym (its.read.rounds n part.0 part.1);
           known = λ segment first last. ap (λ (k : List ℕ). known_of k segment) of.known ∙ known_tame a parts h segments tokens pieces areas its n segment known;

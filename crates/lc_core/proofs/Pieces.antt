@@ -19,10 +19,10 @@ use Rattle.lc_core.specs.Pages.{areas_of}
 use Rattle.lc_core.specs.Made.{AreSegments}
 use Rattle.lc_core.specs.Pieces.{AreLeftAt, AreLeftBy, AreMadeNodes, AreNodePieces, AreTokens, IsMadeNode, IsMadeSlot, IsTokenOf, bytes_of, is_before, is_here, left_at, left_by, standing_at}
 use Rattle.lc_core.specs.Places.{same_some}
-use Rattle.lc_core.specs.Records.{Kept, Spelled, closed_at, closing, count_of}
+use Rattle.lc_core.specs.Records.{KeptRecords, Spelled, closed_at, closing, count_of}
 use Rattle.lc_core.specs.Seat.{Free}
 use Rattle.lc_core.specs.declared.log.Log.{Log}
-use Rattle.lc_core.specs.declared.node.Node.{Node}
+use Rattle.lc_core.specs.declared.node_state.NodeState.{NodeState}
 use Rattle.lc_core.specs.declared.node_piece.NodePiece.{NodePiece}
 use Rattle.lc_core.specs.declared.pages.Pages.{Pages}
 use Rattle.lc_core.specs.declared.segment_piece.SegmentPiece.{SegmentPiece}
@@ -98,7 +98,7 @@ tokens_left_by g nodes pieces olds news all same named left k token got =
 
 module _ {D : Type 0} (a : Ghosts D) where
   -- a node that is made of the tokens which the nodes before it have left is made of all
-  pub made_of_all : (g : Geometry) (n : ℕ) (segments : List SegmentPiece) (first tokens : List (Option Token)) (piece : NodePiece D a) (node : Node D a) → length tokens ≡ length first
+  pub made_of_all : (g : Geometry) (n : ℕ) (segments : List SegmentPiece) (first tokens : List (Option Token)) (piece : NodePiece D a) (node : NodeState D a) → length tokens ≡ length first
       → ((k : ℕ) (now : Option Token) → slice_get tokens k ≡ Some now → (q : SegmentPiece) (token : Option Token) → slice_get segments k ≡ Some q → slice_get first k ≡ Some token → now ≡ left_by n q.holder token)
       → IsMadeNode a g n segments tokens piece node → IsMadeNode a g n segments first piece node
   made_of_all g n segments first tokens piece node same left made = record {
@@ -115,7 +115,7 @@ module _ {D : Type 0} (a : Ghosts D) where
     known = made.known;
   }
 
-  pub made_whole : (g : Geometry) (segments : List SegmentPiece) (tokens : List (Option Token)) (pieces : List (NodePiece D a)) (nodes : List (Node D a)) → length pieces ≡ length nodes
+  pub made_whole : (g : Geometry) (segments : List SegmentPiece) (tokens : List (Option Token)) (pieces : List (NodePiece D a)) (nodes : List (NodeState D a)) → length pieces ≡ length nodes
       → AreMadeNodes a g segments tokens pieces nodes → AreWhole a g nodes
   made_whole g segments tokens pieces nodes same made n node got =
       let within = slice_get_within nodes n node got in
@@ -127,7 +127,7 @@ module _ {D : Type 0} (a : Ghosts D) where
       let slots_ok = node.desk.here.slots.ok.0 in
       record { seats = omega (arith, seats, seats_ok); slots = omega (arith, slots, slots_ok) }
 
-  pub made_logs : (g : Geometry) (segments : List SegmentPiece) (tokens : List (Option Token)) (pieces : List (NodePiece D a)) (nodes : List (Node D a)) → length pieces ≡ length nodes
+  pub made_logs : (g : Geometry) (segments : List SegmentPiece) (tokens : List (Option Token)) (pieces : List (NodePiece D a)) (nodes : List (NodeState D a)) → length pieces ≡ length nodes
       → AreNodePieces a g.words pieces → AreMadeNodes a g segments tokens pieces nodes → HaveLogs a (8 * (g.words + 1)) nodes
   made_logs g segments tokens pieces nodes same are made n node got =
       let within = slice_get_within nodes n node got in
@@ -140,12 +140,12 @@ module _ {D : Type 0} (a : Ghosts D) where
   areas_have len areas segments long are k pages at = long k pages.area (ap (λ (l : List D). slice_get l k) (sym are) ∙ get-map (λ (p : Pages D a). p.area) segments k pages at)
 
   -- the same of nodes that were written back, of tokens as they were, in a geometry that is the same
-  pub made_back : (g h : Geometry) (segments : List SegmentPiece) (olds tokens : List (Option Token)) (pieces : List (NodePiece D a)) (nodes backs : List (Node D a)) → h ≡ g → olds ≡ tokens → backs ≡ nodes
+  pub made_back : (g h : Geometry) (segments : List SegmentPiece) (olds tokens : List (Option Token)) (pieces : List (NodePiece D a)) (nodes backs : List (NodeState D a)) → h ≡ g → olds ≡ tokens → backs ≡ nodes
       → AreMadeNodes a h segments olds pieces nodes → AreMadeNodes a g segments tokens pieces backs
   made_back g h segments olds tokens pieces nodes backs same were are made =
       subst (λ (v : Geometry). AreMadeNodes a v segments tokens pieces backs) same
       (subst (λ (ts : List (Option Token)). AreMadeNodes a h segments ts pieces backs) were
-      (subst (λ (ns : List (Node D a)). AreMadeNodes a h segments olds pieces ns) (sym are) made))
+      (subst (λ (ns : List (NodeState D a)). AreMadeNodes a h segments olds pieces ns) (sym are) made))
 
 pub left_back : (m n : ℕ) (segments : List SegmentPiece) (olds tokens news backs : List (Option Token)) → m ≡ n → olds ≡ tokens → backs ≡ news → AreLeftBy m segments olds news → AreLeftBy n segments tokens backs
 left_back m n segments olds tokens news backs same were are left =
@@ -161,7 +161,7 @@ closing_last zero (r ∷ rs) words same = absurd (omega (arith, same))
 closing_last (suc n) [] words same = absurd (omega (arith, same))
 closing_last (suc n) (r ∷ rs) words same = ap (λ (l : List Spelled). r ∷ l) (closing_last n rs words (omega (arith, same)))
 
-pub closed_last : (number : ℕ) (k : Kept) (words : List ℕ) → number ≡ count_of k
+pub closed_last : (number : ℕ) (k : KeptRecords) (words : List ℕ) → number ≡ count_of k
     → closed_at number (record k { records = k.records ++ record { words = words; closed = false } ∷ [] }) ≡ record k { records = k.records ++ record { words = words; closed = true } ∷ [] }
 closed_last number k words same =
     closed_in number (record k { records = k.records ++ record { words = words; closed = false } ∷ [] }) (omega (arith, same))

@@ -15,7 +15,7 @@ use Rattle.lc_core.specs.Journal.{FitsLog}
 use Rattle.lc_core.specs.Numbers.{Numbers}
 use Rattle.lc_core.specs.Places.{same_some}
 use Rattle.lc_core.specs.Published.{IsFound}
-use Rattle.lc_core.specs.Records.{Spelled, Kept, count_of}
+use Rattle.lc_core.specs.Records.{Spelled, KeptRecords, count_of}
 use Rattle.lc_core.specs.declared.log.Log.{Log}
 use Rattle.lc_core.specs.declared.publishing.Published.{Published}
 use Rattle.lc_core.specs.declared.publishing.Published.TheVariants.{Unknown, Trimmed, Record as Is}
@@ -58,7 +58,7 @@ found_one m node s x number Unknown r (inr above) is = absurd (let acked = is.1 
 found_one m node s x number Trimmed r its is = absurd (let trimmed = its.2 in let kept = is.2 in omega (arith, trimmed, kept))
 found_one m node s x number (Is q) r its is = ap (λ (p : Record). Is p) (same_some q r (sym its.3 ∙ is.3))
 
-module _ {D : Type 0} (a : Ghosts D) (m : Setting) (node : ℕ) (s : State) (x : Numbers) (log : Log D a) (k : Kept) (dropped trimmed taken acked : ℕ)
+module _ {D : Type 0} (a : Ghosts D) (m : Setting) (node : ℕ) (s : State) (x : Numbers) (log : Log D a) (k : KeptRecords) (dropped trimmed taken acked : ℕ)
     (h : FitsLog a m node log k dropped trimmed taken acked s x) where
   -- the words of a number are those of the node's record
   pub kept_at : (place : ℕ) (words : List ℕ) → k.before ≤ place → place < count_of k → ((r : Spelled) → slice_get k.records (place - k.before) ≡ Some r → words ≡ r.words)

@@ -30,8 +30,8 @@ use Rattle.lc_core.specs.Records.{Spelled}
 use Rattle.lc_core.specs.declared.node_images.NodeImages.{NodeImages}
 use Rattle.lc_rest.specs.declared.node_part.NodePart.{NodePart}
 use Rattle.lc_core.specs.declared.node_piece.NodePiece.{NodePiece}
-use Rattle.lc_rest.specs.declared.part.Part.{Part}
-use Rattle.lc_rest.specs.declared.part.Part.TheVariants.{Seat, Log, Token, Image}
+use Rattle.lc_rest.specs.declared.cluster_part.ClusterPart.{ClusterPart}
+use Rattle.lc_rest.specs.declared.cluster_part.ClusterPart.TheVariants.{Seat, Log, Token, Image}
 use Rattle.lc_rest.specs.declared.parts.Parts.{Parts}
 use Rattle.lc_core.specs.declared.read_cluster.ReadCluster.{ReadCluster}
 use Rattle.lc_core.specs.declared.read_parts.ReadParts.{ReadParts}
@@ -47,7 +47,7 @@ placed_self (Here node) = refl
 placed_self (Left node) = refl
 
 -- a part that fails is one of the cluster's
-pub one_of_cluster : (r : ReadParts) (knowns : List (List ℕ)) (nodes : List NodeImages) (part : Part) → FailsIn r knowns nodes part → HasPart r.geometry part
+pub one_of_cluster : (r : ReadParts) (knowns : List (List ℕ)) (nodes : List NodeImages) (part : ClusterPart) → FailsIn r knowns nodes part → HasPart r.geometry part
 one_of_cluster r knowns nodes (Seat node) fails = absurd fails
 one_of_cluster r knowns nodes (Log node) fails = fails.0
 one_of_cluster r knowns nodes (Token segment) fails = (fails.2.from, fails.0)
@@ -207,7 +207,7 @@ module _ {D : Type 0} (a : Ghosts D) (parts : Parts D a) (kept : AreKept a parts
     images = λ segment first last. images_kept turns segment (passes.pictures segment first last);
   }
 
-  pub one_fails : (part : Part) → FailsIn c.read (knowns_of a c.pieces.items) c.images.items part → (turns : List ℕ) × Fails a parts (cluster_read a c turns) part
+  pub one_fails : (part : ClusterPart) → FailsIn c.read (knowns_of a c.pieces.items) c.images.items part → (turns : List ℕ) × Fails a parts (cluster_read a c turns) part
   one_fails (Seat node) fails = absurd fails
   one_fails (Log node) (less, inl first) = ([], (less, inl (first_mapped (KeepsAt c.read (knowns_of a c.pieces.items)) (KeepsOwn a parts (cluster_read a c [])) 0 node (own_kept []) (own_at [] node) first)))
   one_fails (Log node) (less, inr others) =

@@ -54,7 +54,7 @@ use Rattle.lc_core.specs.Settled.{refusal_or, first_spent, record_refusal, reser
 use Rattle.lc_core.specs.declared.desk.Desk.{Desk}
 use Rattle.lc_core.specs.declared.here.Here.{Here}
 use Rattle.lc_core.specs.declared.log_end.LogEnd.{LogEnd}
-use Rattle.lc_core.specs.declared.slot.Slot.{Slot}
+use Rattle.lc_core.specs.declared.segment_copy.SegmentCopy.{SegmentCopy}
 use Rattle.lc_core.proofs.Dropping.{own_open_runs, open_fits}
 use Rattle.lc_core.proofs.Holding.{holders-proper}
 use Rattle.lc_core.proofs.Seating.{open_seat}
@@ -67,7 +67,7 @@ pub known_here : (here : Here) → vec_len here.slots ≤ 16 → (segment : ℕ)
 known_here here few zero is = absurd cc
 known_here here few (suc k) is = at (slice_get here.slots.items k) refl is
   where
-    at : (o : Option Slot) → slice_get here.slots.items k ≡ o → IsSome (number_at o) → (1 ≤ suc k) × (suc k ≤ 16)
+    at : (o : Option SegmentCopy) → slice_get here.slots.items k ≡ o → IsSome (number_at o) → (1 ≤ suc k) × (suc k ≤ 16)
     at None same some = absurd cc
     at (Some slot) same some = (let less : k < length here.slots.items = below here.slots.items k slot same in (omega arith, omega (arith, less, few, here.slots.ok.0)))
 

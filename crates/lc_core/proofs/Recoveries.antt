@@ -47,20 +47,20 @@ use Rattle.lc_core.specs.Numbers.{Numbers, recovered_numbers}
 use Rattle.lc_core.specs.Running.{FitsRunning}
 use Rattle.lc_core.specs.Settled.{CountsSteps, number_of, open_answer, settled_answer}
 use Rattle.lc_core.specs.Slots.{besides_of}
-use Rattle.lc_core.specs.Node.{FitsNode}
+use Rattle.lc_core.specs.NodeState.{FitsNode}
 use Rattle.lc_core.specs.Stepping.{FollowsStep, TellsWriting, is_plain, works_up}
 use Rattle.lc_core.specs.Turns.{AreWithin, Turns, closed_with, held_back, kept_numbers, numbers_after}
 use Rattle.lc_core.specs.Recovering.{ComesUp, RepliesTo}
 use Rattle.lc_core.specs.Pages.{FitsArea, FitsPages, IsAtRest, IsPageAt, areas_of}
 use Rattle.lc_core.specs.HonestAreas.{HonestUp}
 use Rattle.lc_core.specs.World.{Begins, BeginsAnew, FitsDown, FitsPhase, FitsUp, FollowsAnyhow, FollowsUp, Leads, LeadsTo, StillFitsUp}
-use Rattle.lc_core.specs.declared.phase.Phase.{Phase}
-use Rattle.lc_core.specs.declared.phase.Phase.TheVariants.{Down, Up, Taken}
+use Rattle.lc_core.specs.declared.world_phase.WorldPhase.{WorldPhase}
+use Rattle.lc_core.specs.declared.world_phase.WorldPhase.TheVariants.{Down, Up, Taken}
 use Rattle.lc_core.specs.declared.page_state.PageState.{PageState}
 use Rattle.lc_core.specs.declared.page_state.PageState.TheVariants.{AtRest, Failed as HasFailed}
 use Rattle.lc_core.specs.declared.pages.Pages.{Pages}
 use Rattle.lc_core.specs.declared.up.Up.{Up as Rising}
-use Rattle.lc_core.specs.declared.node.Node.{Node}
+use Rattle.lc_core.specs.declared.node_state.NodeState.{NodeState}
 use Rattle.lc_core.specs.declared.running.Running.{Running}
 use Rattle.lc_core.proofs.Slotted.{Stays, slots_stay, stays_where}
 
@@ -218,7 +218,7 @@ module _ {D : Type 0} (a : Ghosts D) (m : Setting) (s : State) (x : Numbers) whe
   steps_stay : Stays m s x s (record x { steps = 0 })
   steps_stay = stays_where m s s x (record x { steps = 0 }) refl refl refl refl refl refl refl refl refl
 
-  log_stays : (n : ℕ) (w : Node D a) → FitsNode a m n w s x → FitsNode a m n w s (record x { steps = 0 })
+  log_stays : (n : ℕ) (w : NodeState D a) → FitsNode a m n w s x → FitsNode a m n w s (record x { steps = 0 })
   log_stays n w h = record {
     desk = h.desk;
     slots = slots_stay m n (besides_of w.desk.here) s x s (record x { steps = 0 }) steps_stay h.slots;
@@ -328,48 +328,48 @@ module _ {D : Type 0} (a : Ghosts D) (m : Setting) (s : State) (x : Numbers) whe
 
 module _ {D : Type 0} (a : Ghosts D) where
   -- whatever a phase fits
-  abbrev pub FollowsPhase : Phase D a → Event → Reply → Phase D a → Type 0
+  abbrev pub FollowsPhase : WorldPhase D a → Event → Reply → WorldPhase D a → Type 0
   FollowsPhase old event reply new = (m : Setting) (s : State) (x : Numbers) → FitsPhase a m old s x → Leads a m event s x reply new
 
-  pub up_follows : (old : Phase D a) (up new : Rising D a) (event : Event) (reply : Reply) → old ≡ Up up → FollowsUp a up event reply new → (HonestUp a up → HonestUp a new) → FollowsPhase old event reply (Up new)
+  pub up_follows : (old : WorldPhase D a) (up new : Rising D a) (event : Event) (reply : Reply) → old ≡ Up up → FollowsUp a up event reply new → (HonestUp a up → HonestUp a new) → FollowsPhase old event reply (Up new)
   up_follows old up new event reply is follows honest m s x h =
-      let its : FitsUp a m up s x × HonestUp a up = subst (λ (p : Phase D a). FitsPhase a m p s x) is h in
+      let its : FitsUp a m up s x × HonestUp a up = subst (λ (p : WorldPhase D a). FitsPhase a m p s x) is h in
       let leads = follows m s x its.0 in
       record { after = leads.after; next = leads.next; step = leads.step; settled = leads.settled; turns = leads.turns; fits = (leads.fits, honest its.1) }
 
-  pub up_still : (old : Phase D a) (up new : Rising D a) → old ≡ Up up → (HonestUp a up → HonestUp a new) → StillFitsUp a up new
+  pub up_still : (old : WorldPhase D a) (up new : Rising D a) → old ≡ Up up → (HonestUp a up → HonestUp a new) → StillFitsUp a up new
       → (m : Setting) (s : State) (x : Numbers) → FitsPhase a m old s x → FitsPhase a m (Up new) s x
-  up_still old up new is honest still m s x h = (let its : FitsUp a m up s x × HonestUp a up = subst (λ (p : Phase D a). FitsPhase a m p s x) is h in (still m s x its.0, honest its.1))
+  up_still old up new is honest still m s x h = (let its : FitsUp a m up s x × HonestUp a up = subst (λ (p : WorldPhase D a). FitsPhase a m p s x) is h in (still m s x its.0, honest its.1))
 
-  pub down_same : (r other : Recovering D) → ◌≡◌ {A = Phase D a} (Down r) (Down other) → r ≡ other
-  down_same r other same = ap (λ (p : Phase D a). elim p as (λ (p : Phase D a). Recovering D) [ Down it ↦ it | _ ↦ r ]) same
+  pub down_same : (r other : Recovering D) → ◌≡◌ {A = WorldPhase D a} (Down r) (Down other) → r ≡ other
+  down_same r other same = ap (λ (p : WorldPhase D a). elim p as (λ (p : WorldPhase D a). Recovering D) [ Down it ↦ it | _ ↦ r ]) same
 
   -- not up
-  pub not_up : (old : Phase D a) (event : Event) → ((up : Rising D a) → old ≡ Up up → ⊥) → works_up event ≡ true → FollowsPhase old event (Refused IsDownNow) old
+  pub not_up : (old : WorldPhase D a) (event : Event) → ((up : Rising D a) → old ≡ Up up → ⊥) → works_up event ≡ true → FollowsPhase old event (Refused IsDownNow) old
   not_up (Down r) event not works = λ m s x h. down_refuses a m s x r event works h
   not_up (Up up) event not works = absurd (not up refl)
   not_up Taken event not works = λ m s x h. absurd h
 
   -- not down
-  pub not_down : (old : Phase D a) → ((r : Recovering D) → old ≡ Down r → ⊥) → FollowsPhase old RecoverStep (Refused OutOfTurn) old
+  pub not_down : (old : WorldPhase D a) → ((r : Recovering D) → old ≡ Down r → ⊥) → FollowsPhase old RecoverStep (Refused OutOfTurn) old
   not_down (Down r) not = absurd (not r refl)
   not_down (Up up) not = up_follows (Up up) up up RecoverStep (Refused OutOfTurn) refl (λ m s x h. up_refuses a m s x up h) (λ honest. honest)
   not_down Taken not = λ m s x h. absurd h
 
   -- whatever the areas are
-  same_up : (one other : Rising D a) → ◌≡◌ {A = Phase D a} (Up one) (Up other) → one ≡ other
-  same_up one other same = ap (λ (p : Phase D a). elim p as (λ (p : Phase D a). Rising D a) [ Up it ↦ it | _ ↦ one ]) same
+  same_up : (one other : Rising D a) → ◌≡◌ {A = WorldPhase D a} (Up one) (Up other) → one ≡ other
+  same_up one other same = ap (λ (p : WorldPhase D a). elim p as (λ (p : WorldPhase D a). Rising D a) [ Up it ↦ it | _ ↦ one ]) same
 
-  pub not_down_anyhow : (old : Phase D a) → FollowsAnyhow a old RecoverStep (Refused OutOfTurn) old
+  pub not_down_anyhow : (old : WorldPhase D a) → FollowsAnyhow a old RecoverStep (Refused OutOfTurn) old
   not_down_anyhow old up is = (up, is, λ m s x h. up_refuses a m s x up h)
 
-  pub down_anyhow : (old : Phase D a) (r : Recovering D) (event : Event) (reply : Reply) (new : Phase D a) → old ≡ Down r → FollowsAnyhow a old event reply new
+  pub down_anyhow : (old : WorldPhase D a) (r : Recovering D) (event : Event) (reply : Reply) (new : WorldPhase D a) → old ≡ Down r → FollowsAnyhow a old event reply new
   down_anyhow old r event reply new is up up_is = absurd (let both : Up up ≡ Down r = sym up_is ∙ is in cc)
 
-  pub up_anyhow : (old : Phase D a) (up new : Rising D a) (event : Event) (reply : Reply) → old ≡ Up up → FollowsUp a up event reply new → FollowsAnyhow a old event reply (Up new)
+  pub up_anyhow : (old : WorldPhase D a) (up new : Rising D a) (event : Event) (reply : Reply) → old ≡ Up up → FollowsUp a up event reply new → FollowsAnyhow a old event reply (Up new)
   up_anyhow old up new event reply is follows other other_is = (new, refl, subst (λ (its : Rising D a). FollowsUp a its event reply new) (same_up up other (sym is ∙ other_is)) follows)
 
-  pub others_anyhow : (old : Phase D a) (event : Event) (reply : Reply) (new : Phase D a) → ((up : Rising D a) → old ≡ Up up → ⊥) → FollowsAnyhow a old event reply new
+  pub others_anyhow : (old : WorldPhase D a) (event : Event) (reply : Reply) (new : WorldPhase D a) → ((up : Rising D a) → old ≡ Up up → ⊥) → FollowsAnyhow a old event reply new
   others_anyhow old event reply new not up is = absurd (not up is)
 
   -- what a step of a recovery leaves
@@ -384,9 +384,9 @@ module _ {D : Type 0} (a : Ghosts D) where
     pub merges : (content : Content) (numbers : ℕ → ℕ) → AreHonest a new.areas → AllMergeTo a r.geometry r.areas content numbers → AllMergeTo a r.geometry new.areas content numbers
     pub accepted : (content : Content) (numbers : ℕ → ℕ) → AreHonest a r.areas → AllMergeTo a r.geometry r.areas content numbers → IfErr result (λ fault. (fault ≡ NoMemory) ⊎ (fault ≡ Failed))
 
-  module _ (old : Phase D a) (r new : Recovering D) (is : old ≡ Down r) where
+  module _ (old : WorldPhase D a) (r new : Recovering D) (is : old ≡ Down r) where
     fits_down : (m : Setting) (s : State) (x : Numbers) → FitsPhase a m old s x → FitsDown a m r s x
-    fits_down m s x h = subst (λ (p : Phase D a). FitsPhase a m p s x) is h
+    fits_down m s x h = subst (λ (p : WorldPhase D a). FitsPhase a m p s x) is h
 
     keeps_of : {result : Result Progress RecoverFault} → StepLeaves r new result → (m : Setting) (s : State) (x : Numbers) → FitsDown a m r s x → Keeps a m s x r new
     keeps_of leaves m s x h =
@@ -529,14 +529,14 @@ module _ {D : Type 0} (a : Ghosts D) where
         fits = fits_up r up risen m [] made.numbers (sym risen.geometry) (sound-recovered r.geometry (first_state r.geometry) [] (sound-first r.geometry)) (refl, λ segment first last. refl);
       }
 
-  pub begins_in : (old : Phase D a) (r new : Recovering D) (up : Rising D a) (phase : Phase D a) → old ≡ Down r → new.geometry ≡ r.geometry → phase ≡ Up up → ComesUp a new up → Begins a old phase
+  pub begins_in : (old : WorldPhase D a) (r new : Recovering D) (up : Rising D a) (phase : WorldPhase D a) → old ≡ Down r → new.geometry ≡ r.geometry → phase ≡ Up up → ComesUp a new up → Begins a old phase
   begins_in old r new up phase is geometry up_is risen other other_is = (
     up,
     up_is,
     subst (λ (g : Geometry). BeginsAnew a g up) (geometry ∙ ap (λ (it : Recovering D). it.geometry) (down_same r other (sym is ∙ other_is))) (begins_anew new up risen),
   )
 
-  module _ (old : Phase D a) (r new : Recovering D) (is : old ≡ Down r) where
+  module _ (old : WorldPhase D a) (r new : Recovering D) (is : old ≡ Down r) where
     -- the last step: what has come up fits the state that the cut keeps
     module _ (up : Rising D a) (risen : ComesUp a new up) (m : Setting) (s : State) (x : Numbers) (h : FitsDown a m r s x) (keeps : Keeps a m s x r new) where
       abbrev kept_now : List Transaction

@@ -4,7 +4,7 @@ use Rattle.std.specs.Prelude.{if◌then◌else◌, slice_get, Result, Ok, Err, I
 use Rattle.std.proofs.lemmas.Result.{IfOk-from_err, IfOk-weaker}
 use Rattle.lc_disk.specs.declared.area.Area.{Ghosts}
 use Rattle.lc_record.specs.declared.geometry.Geometry.{Geometry}
-use Rattle.lc_model.specs.Merge.{Store, MergesTo}
+use Rattle.lc_model.specs.Merge.{StoreText, MergesTo}
 use Rattle.lc_disk.specs.declared.choice.Choice.{Choice}
 use Rattle.lc_core.specs.Stepping.{works_up}
 use Rattle.lc_model.specs.declared.event.Event.{Event}
@@ -26,8 +26,8 @@ use Rattle.lc_core.specs.Places.{same_some}
 use Rattle.lc_recover.specs.Fault.{refusal_to}
 use Rattle.lc_core.specs.Recovering.{RepliesTo}
 use Rattle.lc_core.specs.Recovers.{AnswersRecovery, RecoversDown, RefusesAtOnce, at_once, is_recovery}
-use Rattle.lc_core.specs.declared.phase.Phase.{Phase}
-use Rattle.lc_core.specs.declared.phase.Phase.TheVariants.{Down, Up, Taken}
+use Rattle.lc_core.specs.declared.world_phase.WorldPhase.{WorldPhase}
+use Rattle.lc_core.specs.declared.world_phase.WorldPhase.TheVariants.{Down, Up, Taken}
 use Rattle.lc_core.specs.declared.up.Up.{Up as Rising}
 use Rattle.lc_core.proofs.Anew.{starts_anew}
 use Rattle.lc_core.proofs.Recoveries.{down_same, if_ok_at, stepped_same}
@@ -103,7 +103,7 @@ module _ {D : Type 0} (a : Ghosts D) where
           inl (
             merged.content,
             merged.numbers,
-            subst (λ (store : Store). MergesTo store merged.content merged.numbers) (same_store says.geometry (says.no_call next)) merged.merges,
+            subst (λ (store : StoreText). MergesTo store merged.content merged.numbers) (same_store says.geometry (says.no_call next)) merged.merges,
             (steps, refl),
           ));
       called = λ other. inl (steps, refl);
@@ -153,13 +153,13 @@ module _ {D : Type 0} (a : Ghosts D) where
     down_answers (Ok HasRecovered) answer replies says going = absurd (going HasRecovered refl says.progress)
     down_answers (Err fault) answer replies says going = refusal_answers fault answer replies says
 
-    pub down_recovers : {E : Type 0} (old : Phase D a) → old ≡ Down r → (result : Result Progress RecoverFault) (answer : Result Reply E) → RepliesTo result answer → StepSays r new result
+    pub down_recovers : {E : Type 0} (old : WorldPhase D a) → old ≡ Down r → (result : Result Progress RecoverFault) (answer : Result Reply E) → RepliesTo result answer → StepSays r new result
         → ((p : Progress) → result ≡ Ok p → IsDone new → ⊥) → IfOk answer (λ reply. RecoversDown a old reply (Down new))
     down_recovers old is result answer replies says going = IfOk-weaker answer _ _
         (λ reply answers other same. subst (λ (v : Recovering D). AnswersRecovery a v reply (Down new)) (down_same a r other (sym is ∙ same)) answers)
         (down_answers result answer replies says going)
 
-  pub risen_recovers : (old : Phase D a) (r : Recovering D) → old ≡ Down r → IsLast r → (up : Rising D a) → RecoversDown a old Recovered (Up up)
+  pub risen_recovers : (old : WorldPhase D a) (r : Recovering D) → old ≡ Down r → IsLast r → (up : Rising D a) → RecoversDown a old Recovered (Up up)
   risen_recovers old r is last up other same = subst (λ (v : Recovering D). AnswersRecovery a v Recovered (Up up)) (down_same a r other (sym is ∙ same)) (record {
     stepped = λ steps same. absurd cc;
     recovered = λ _. (last, (up, refl));
@@ -176,36 +176,36 @@ module _ {D : Type 0} (a : Ghosts D) where
 
   -- What is refused at once
 
-  pub up_refuses : (phase : Phase D a) → ((r : Recovering D) → phase ≡ Down r → ⊥) → RefusesAtOnce a phase RecoverStep (Refused OutOfTurn) phase
+  pub up_refuses : (phase : WorldPhase D a) → ((r : Recovering D) → phase ≡ Down r → ⊥) → RefusesAtOnce a phase RecoverStep (Refused OutOfTurn) phase
   up_refuses (Down r) not_down refusal is = absurd (not_down r refl)
   up_refuses (Up up) not_down refusal is = (ap (λ (v : Refusal). Refused v) (same_some OutOfTurn refusal is), refl)
   up_refuses Taken not_down refusal is = (ap (λ (v : Refusal). Refused v) (same_some OutOfTurn refusal is), refl)
 
-  pub down_refuses : (phase : Phase D a) (event : Event) → ((up : Rising D a) → phase ≡ Up up → ⊥) → works_up event ≡ true → RefusesAtOnce a phase event (Refused IsDown) phase
+  pub down_refuses : (phase : WorldPhase D a) (event : Event) → ((up : Rising D a) → phase ≡ Up up → ⊥) → works_up event ≡ true → RefusesAtOnce a phase event (Refused IsDown) phase
   down_refuses phase event not_up works refusal is = one phase not_up is
     where
       down_is : (rest : Option Refusal) → (if works_up event then Some IsDown else rest) ≡ Some refusal → Refused IsDown ≡ Refused refusal
       down_is rest is = ap (λ (v : Refusal). Refused v) (same_some IsDown refusal (sym (ap (λ (b : Bool). if b then Some IsDown else rest) works) ∙ is))
 
-      one : (p : Phase D a) → ((up : Rising D a) → p ≡ Up up → ⊥) → at_once a p event ≡ Some refusal → (Refused IsDown ≡ Refused refusal) × (phase ≡ phase)
+      one : (p : WorldPhase D a) → ((up : Rising D a) → p ≡ Up up → ⊥) → at_once a p event ≡ Some refusal → (Refused IsDown ≡ Refused refusal) × (phase ≡ phase)
       one (Down r) not_up is = (down_is None is, refl)
       one (Up up) not_up is = absurd (not_up up refl)
       one Taken not_up is = (down_is _ is, refl)
 
   -- a store that is down recovers, and one that is up does all else
-  pub down_asks : (phase : Phase D a) (r : Recovering D) → phase ≡ Down r → (reply : Reply) (new : Phase D a) → RefusesAtOnce a phase RecoverStep reply new
+  pub down_asks : (phase : WorldPhase D a) (r : Recovering D) → phase ≡ Down r → (reply : Reply) (new : WorldPhase D a) → RefusesAtOnce a phase RecoverStep reply new
   down_asks phase r is reply new refusal refused = absurd (let no : None ≡ Some refusal = ap (λ p. at_once a p RecoverStep) (sym is) ∙ refused in cc)
 
-  pub up_asks : (phase : Phase D a) (up : Rising D a) → phase ≡ Up up → (event : Event) → (event ≡ RecoverStep → ⊥) → (reply : Reply) (new : Phase D a) → RefusesAtOnce a phase event reply new
+  pub up_asks : (phase : WorldPhase D a) (up : Rising D a) → phase ≡ Up up → (event : Event) → (event ≡ RecoverStep → ⊥) → (reply : Reply) (new : WorldPhase D a) → RefusesAtOnce a phase event reply new
   up_asks phase up is event other reply new refusal refused =
       absurd (let no : None ≡ Some refusal = sym (ap (λ (b : Bool). if b then Some OutOfTurn else None) (no_recovery event other)) ∙ ap (λ p. at_once a p event) (sym is) ∙ refused in cc)
 
   -- any store takes a stop
-  pub stop_asks : (phase : Phase D a) (event : Event) (choices : List (List Choice)) → event ≡ Stop choices → (reply : Reply) (new : Phase D a) → RefusesAtOnce a phase event reply new
+  pub stop_asks : (phase : WorldPhase D a) (event : Event) (choices : List (List Choice)) → event ≡ Stop choices → (reply : Reply) (new : WorldPhase D a) → RefusesAtOnce a phase event reply new
   stop_asks phase event choices is reply new refusal refused =
       absurd (let no : None ≡ Some refusal = sym (none phase) ∙ ap (at_once a phase) (sym is) ∙ refused in cc)
     where
-      none : (p : Phase D a) → at_once a p (Stop choices) ≡ None
+      none : (p : WorldPhase D a) → at_once a p (Stop choices) ≡ None
       none (Down r) = refl
       none (Up up) = refl
       none Taken = refl

@@ -23,11 +23,11 @@ use Rattle.lc_model.proofs.Merging.{records_from-append}
 use Rattle.lc_trunc.specs.Clean.{closed_of}
 use Rattle.lc_core.specs.Numbers.{Numbers, next_record}
 use Rattle.lc_core.specs.Logging.{end_of_records}
-use Rattle.lc_core.specs.Node.{FitsNode}
+use Rattle.lc_core.specs.NodeState.{FitsNode}
 use Rattle.lc_core.specs.Prepares.{EndsAt}
 use Rattle.lc_core.specs.Records.{count_of, front_of}
 use Rattle.lc_core.specs.Settled.{reserve_answer, reserve_open}
-use Rattle.lc_core.specs.declared.node.Node.{Node}
+use Rattle.lc_core.specs.declared.node_state.NodeState.{NodeState}
 use Rattle.lc_core.proofs.Appending.{filter-end}
 use Rattle.lc_core.proofs.Logged.{end_same}
 use Rattle.lc_core.proofs.Spans.{leading_le}
@@ -77,7 +77,7 @@ ended_open m s after x (Some t) row answer is = marked (is_empty t.marks) row is
 
 module _ {D : Type 0} (a : Ghosts D) where
   -- the end of the log, as it is asked for
-  pub ends_at : (m : Setting) (n : ℕ) (s : State) (x : Numbers) (w : Node D a) (end : ℕ) (sealed : Bool) → FitsNode a m n w s x
+  pub ends_at : (m : Setting) (n : ℕ) (s : State) (x : Numbers) (w : NodeState D a) (end : ℕ) (sealed : Bool) → FitsNode a m n w s x
       → end ≡ end_of_records a w.journal → sealed ≡ nat_lt 0 (x.reset n) → EndsAt m n s x (record { end = end; room = w.journal.words; sealed = sealed })
   ends_at m n s x w end sealed h is same =
       let k = w.journal.records in

@@ -24,7 +24,7 @@ use Rattle.lc_core.specs.Journal.{FitsLog, reply_of}
 use Rattle.lc_core.specs.Log.{ComesToReset, HasReset, MovesReset, ResetsTo, Stands, Unseals, is_emptied, is_failed, is_sealed}
 use Rattle.lc_core.specs.Numbers.{Numbers, stable_records}
 use Rattle.lc_core.specs.Places.{same_some}
-use Rattle.lc_core.specs.Records.{Kept, count_of}
+use Rattle.lc_core.specs.Records.{KeptRecords, count_of}
 use Rattle.lc_core.specs.Resets.{GoesOnReset}
 use Rattle.lc_core.specs.Settled.{IsAnswer, Settled, is_unflushed, last_round, least_unclean, locks_in, reset_begins, reset_call}
 use Rattle.lc_core.specs.Turns.{Turns, reset_done, reset_to}
@@ -117,7 +117,7 @@ module _ {D : Type 0} (a : Ghosts D) where
   emptied_works (Torn log) is = absurd cc
   emptied_works Taken is = absurd cc
 
-  module _ (m : Setting) (node : ℕ) (s : State) (x : Numbers) (k : Kept) (dropped trimmed taken acked : ℕ) where
+  module _ (m : Setting) (node : ℕ) (s : State) (x : Numbers) (k : KeptRecords) (dropped trimmed taken acked : ℕ) where
     abbrev records : List Record
     records = records_of m s x.disks node
 

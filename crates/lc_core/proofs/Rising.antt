@@ -10,7 +10,7 @@ use Rattle.std.proofs.lemmas.List.Elements.{All-nil}
 use Rattle.std.proofs.lemmas.Option.{get_or_from_slice_get, slice_get_within}
 use Rattle.lc_disk.specs.declared.area.Area.{Ghosts}
 use Rattle.lc_page.specs.PageVector.{entry_at, entry_text, new_entry, no_entry}
-use Rattle.lc_page.specs.declared.entry.Entry.{Entry}
+use Rattle.lc_page.specs.declared.page_entry.PageEntry.{PageEntry}
 use Rattle.lc_record.specs.Content.{Content, segment_of}
 use Rattle.lc_record.specs.Geometry.{segment_len}
 use Rattle.lc_record.specs.Marks.{counting}
@@ -44,19 +44,19 @@ use Rattle.lc_core.specs.Fresh.{segment_bytes, fresh_token, text_read_of, IsFres
 use Rattle.lc_core.specs.Here.{beside, hidden, image_at, number_at, number_in, the_images}
 use Rattle.lc_core.specs.Journal.{FitsLog}
 use Rattle.lc_core.specs.Log.{Stands, HasReset, is_failed, is_idle}
-use Rattle.lc_core.specs.Node.{FitsNode}
+use Rattle.lc_core.specs.NodeState.{FitsNode}
 use Rattle.lc_core.specs.Numbers.{Numbers, recovered_numbers}
 use Rattle.lc_core.specs.Places.{same_some}
-use Rattle.lc_core.specs.Records.{Kept}
+use Rattle.lc_core.specs.Records.{KeptRecords}
 use Rattle.lc_core.specs.Running.{FitsRunning, FitsTravelling}
 use Rattle.lc_core.specs.Slots.{Awaits, Besides, FitsSlot, FitsSlots, FitsToken, besides_of}
 use Rattle.lc_core.specs.declared.here.Here.{Here}
 use Rattle.lc_core.specs.declared.log.Log.{Log}
 use Rattle.lc_core.specs.declared.log.Log.TheVariants.{Idle, Written, Synced, Opened, Sealed, Closing, Emptied, Failed, Torn, Taken}
-use Rattle.lc_core.specs.declared.node.Node.{Node}
+use Rattle.lc_core.specs.declared.node_state.NodeState.{NodeState}
 use Rattle.lc_core.specs.declared.running.Running.{Running}
 use Rattle.lc_core.specs.Seat.{Seat, Free}
-use Rattle.lc_core.specs.declared.slot.Slot.{Slot}
+use Rattle.lc_core.specs.declared.segment_copy.SegmentCopy.{SegmentCopy}
 use Rattle.lc_core.proofs.Cohering.{coherent_fresh}
 
 -- Lists
@@ -101,7 +101,7 @@ shown_is (Some number) picture image is = absurd cc
 -- the slot of a segment that is here
 pub record HasSlot (here : Here) (segment : ℕ) : Type 0 where
   pub place : ℕ
-  pub slot : Slot
+  pub slot : SegmentCopy
   pub next : segment ≡ place + 1
   pub at : slice_get here.slots.items place ≡ Some slot
   pub some : IsSome (number_in slot.token.token)
@@ -109,7 +109,7 @@ pub record HasSlot (here : Here) (segment : ℕ) : Type 0 where
 
 pub slot_of : (here : Here) (segment : ℕ) → IsHere the_images here segment → HasSlot here segment
 slot_of here zero is = absurd cc
-slot_of here (suc k) is = elim (slice_get here.slots.items k) as (λ (o : Option Slot). slice_get here.slots.items k ≡ o → IsSome (number_at o) → HasSlot here (suc k)) [
+slot_of here (suc k) is = elim (slice_get here.slots.items k) as (λ (o : Option SegmentCopy). slice_get here.slots.items k ≡ o → IsSome (number_at o) → HasSlot here (suc k)) [
   | None ↦ λ at some. absurd cc
   | Some slot ↦ λ at some. record {
     place = k;
@@ -165,7 +165,7 @@ module _ {D : Type 0} (a : Ghosts D) (start : Content) (earlier : List Transacti
 
   -- The log
 
-  fresh_log : (n : ℕ) (log : Log D a) (kept : Kept) (dropped trimmed taken acked : ℕ) → kept ≡ record { before = 0; records = [] } → dropped ≡ 0 → trimmed ≡ 0 → taken ≡ 0 → acked ≡ 0
+  fresh_log : (n : ℕ) (log : Log D a) (kept : KeptRecords) (dropped trimmed taken acked : ℕ) → kept ≡ record { before = 0; records = [] } → dropped ≡ 0 → trimmed ≡ 0 → taken ≡ 0 → acked ≡ 0
       → Stands a log 0 [] [] → is_failed a log ≡ false → HasReset a log 0 → FitsLog a m n log kept dropped trimmed taken acked s x
   fresh_log n log kept dropped trimmed taken acked kept_is dropped_is trimmed_is taken_is acked_is stands works reset = record {
     words = rw kept_is refl;
@@ -254,13 +254,13 @@ module _ {D : Type 0} (a : Ghosts D) (start : Content) (earlier : List Transacti
       small = subst (λ (k : ℕ). k ≤ 2 ^ 60) (sym (done.sequences segment first last)) (done.small segment first last);
       clean = sequence_is segment first last;
       pages = length-map (counting 0 r.geometry.pages) entry ∙ length-counting 0 r.geometry.pages;
-      touched = λ page within. ap (λ (e : Entry). e.touched) (entry_is page within);
-      stable_is = λ page within. ap (λ (e : Entry). e.stable) (entry_is page within);
+      touched = λ page within. ap (λ (e : PageEntry). e.touched) (entry_is page within);
+      stable_is = λ page within. ap (λ (e : PageEntry). e.stable) (entry_is page within);
       text_is = λ page within. ap entry_text (entry_is page within);
-      uncounted = λ page within. ap (λ (e : Entry). e.uncommitted) (entry_is page within);
+      uncounted = λ page within. ap (λ (e : PageEntry). e.uncommitted) (entry_is page within);
     }
       where
-        entry : ℕ → Entry
+        entry : ℕ → PageEntry
         entry page = new_entry (page_of r segment page).text
 
         entry_is : (page : ℕ) → page < r.geometry.pages → entry_at (fresh_token r segment).pages page ≡ new_entry (page_of r segment page).text
@@ -271,11 +271,11 @@ module _ {D : Type 0} (a : Ghosts D) (start : Content) (earlier : List Transacti
 
     -- A node
 
-    module _ (n : ℕ) (node : Node D a) (new : IsFreshNode a r n node) where
+    module _ (n : ℕ) (node : NodeState D a) (new : IsFreshNode a r n node) where
       abbrev here : Here
       here = node.desk.here
 
-      slot_known : (k : ℕ) (slot : Slot) → slice_get here.slots.items k ≡ Some slot → k + 1 ≤ r.geometry.segments
+      slot_known : (k : ℕ) (slot : SegmentCopy) → slice_get here.slots.items k ≡ Some slot → k + 1 ≤ r.geometry.segments
       slot_known k slot at = (let count = new.slots_count in let within = slice_get_within here.slots.items k slot at in omega (arith, count, within))
 
       bytes_are : (segment : ℕ) → IsHere the_images here segment → bytes_of the_images here segment ≡ segment_of segment content
@@ -329,7 +329,7 @@ module _ {D : Type 0} (a : Ghosts D) (start : Content) (earlier : List Transacti
         elsewhere = elsewhere;
       }
 
-      slot_fits : (k : ℕ) (slot : Slot) → slice_get here.slots.items k ≡ Some slot → FitsSlot m n (k + 1) (beside slot) s x
+      slot_fits : (k : ℕ) (slot : SegmentCopy) → slice_get here.slots.items k ≡ Some slot → FitsSlot m n (k + 1) (beside slot) s x
       slot_fits k slot at =
           let its = new.slots k slot at in
           let first : 1 ≤ k + 1 = omega arith in

@@ -13,7 +13,7 @@ use Rattle.lc_core.specs.Places.{same_some}
 use Rattle.lc_model.specs.Machine.{halting}
 use Rattle.lc_model.proofs.Seats.{update-own}
 use Rattle.lc_core.specs.Journal.{FitsLog}
-use Rattle.lc_core.specs.Records.{Kept}
+use Rattle.lc_core.specs.Records.{KeptRecords}
 use Rattle.lc_core.specs.Turns.{reset_to}
 use Rattle.lc_core.specs.Resets.{Knows}
 use Rattle.lc_core.specs.Settled.{least_unclean, locks_in}
@@ -114,7 +114,7 @@ module _ {D : Type 0} (a : Ghosts D) where
   reset_still (Torn log) new is end h up = absurd cc
   reset_still Taken new is end h up = absurd cc
 
-  module _ (m : Setting) (node : ℕ) (s : State) (x : Numbers) (k : Kept) (dropped trimmed taken acked : ℕ) where
+  module _ (m : Setting) (node : ℕ) (s : State) (x : Numbers) (k : KeptRecords) (dropped trimmed taken acked : ℕ) where
     abbrev records : List Record
     records = records_of m s x.disks node
 

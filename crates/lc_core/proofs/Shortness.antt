@@ -16,7 +16,7 @@ use Rattle.lc_core.specs.Places.{get_set_same, get_set_other, same_some}
 use Rattle.lc_core.specs.Seats.{AreShort}
 use Rattle.lc_core.specs.Slots.{AreInPlace, Besides, besides_of}
 use Rattle.lc_core.specs.declared.here.Here.{Here}
-use Rattle.lc_core.specs.declared.slot.Slot.{Slot}
+use Rattle.lc_core.specs.declared.segment_copy.SegmentCopy.{SegmentCopy}
 
 same_slots : (old new : Here) → the_images.IsSameBeside old new → length new.slots.items ≡ length old.slots.items
 same_slots old new same = sym (length-map new.slots.items beside) ∙ ap length same.1 ∙ length-map old.slots.items beside
@@ -31,13 +31,13 @@ pub few_slots : (old new : Here) → the_images.IsSameBeside old new → vec_len
 few_slots old new same few = omega (arith, same_slots old new same, few, old.slots.ok.0, new.slots.ok.0)
 
 -- a slot whose token is elsewhere has the image that it had
-away_one : (new old : Slot) → beside new ≡ beside old → number_in old.token.token ≡ None → new.image ≡ old.image
+away_one : (new old : SegmentCopy) → beside new ≡ beside old → number_in old.token.token ≡ None → new.image ≡ old.image
 away_one new old same none =
     let tokens : number_in new.token.token ≡ number_in old.token.token = ap (λ (b : Standing × Backlog × Option Picture). number_in b.0.token) same in
     let images : hidden (number_in new.token.token) new.image ≡ hidden (number_in old.token.token) old.image = ap (λ (b : Standing × Backlog × Option Picture). b.2) same in
     same_some new.image old.image (ap (λ o. hidden o new.image) (sym (tokens ∙ none)) ∙ images ∙ ap (λ o. hidden o old.image) none)
 
-away_image : (spare : Picture) (new old : List Slot) (k : ℕ) → map beside new ≡ map beside old → number_at (slice_get old k) ≡ None → image_at spare (slice_get new k) ≡ image_at spare (slice_get old k)
+away_image : (spare : Picture) (new old : List SegmentCopy) (k : ℕ) → map beside new ≡ map beside old → number_at (slice_get old k) ≡ None → image_at spare (slice_get new k) ≡ image_at spare (slice_get old k)
 away_image spare [] [] k same none = refl
 away_image spare [] (y ∷ ys) k same none = absurd cc
 away_image spare (x ∷ xs) [] k same none = absurd cc
@@ -52,7 +52,7 @@ away_is old new (suc k) same none = ap (λ p. image_at p (slice_get new.slots.it
 pub in_place_same : (old new : Here) → the_images.IsSameBeside old new → AreInPlace (besides_of old) → AreInPlace (besides_of new)
 in_place_same old new same = subst AreInPlace (sym same.1)
 
-same_slot : (slots : List Slot) (k : ℕ) (slot new : Slot) → slice_get slots k ≡ Some slot → new.token.segment ≡ slot.token.segment → new.parts ≡ slot.parts
+same_slot : (slots : List SegmentCopy) (k : ℕ) (slot new : SegmentCopy) → slice_get slots k ≡ Some slot → new.token.segment ≡ slot.token.segment → new.parts ≡ slot.parts
     → (j : ℕ) (b : Besides) → slice_get (map beside (slice_set slots k new)) j ≡ Some b
     → (c : Besides) × (slice_get (map beside slots) j ≡ Some c) × (b.0.segment ≡ c.0.segment) × (b.1 ≡ c.1)
 same_slot [] k slot new is segment parts j b there = absurd cc
@@ -63,7 +63,7 @@ same_slot (z ∷ slots) zero slot new is segment parts (suc j) b there = (b, the
 same_slot (z ∷ slots) (suc k) slot new is segment parts zero b there = (b, there, refl, refl)
 same_slot (z ∷ slots) (suc k) slot new is segment parts (suc j) b there = same_slot slots k slot new is segment parts j b there
 
-pub in_place_moved : (here : Here) (k : ℕ) (slot : Slot) (standing : Standing) → slice_get here.slots.items k ≡ Some slot → standing.segment ≡ slot.token.segment
+pub in_place_moved : (here : Here) (k : ℕ) (slot : SegmentCopy) (standing : Standing) → slice_get here.slots.items k ≡ Some slot → standing.segment ≡ slot.token.segment
     → AreInPlace (besides_of here) → AreInPlace (besides_of (record here { slots = with_item here.slots k (record slot { token = standing }) }))
 in_place_moved here k slot standing at segment placed j b there =
     let old = same_slot here.slots.items k slot (record slot { token = standing }) at segment refl j b there in
@@ -115,7 +115,7 @@ short_written (Ok v) old new segment offset bytes wrote same short = short_kept 
 short_written (Err e) old new segment offset bytes wrote same short = short_same old new same short
 
 -- whatever stands in the place of a slot's token
-pub short_moved : (here : Here) (k : ℕ) (slot : Slot) (standing : Standing) → slice_get here.slots.items k ≡ Some slot → AreShort here → AreShort (record here { slots = with_item here.slots k (record slot { token = standing }) })
+pub short_moved : (here : Here) (k : ℕ) (slot : SegmentCopy) (standing : Standing) → slice_get here.slots.items k ≡ Some slot → AreShort here → AreShort (record here { slots = with_item here.slots k (record slot { token = standing }) })
 short_moved here k slot standing at short zero = short zero
 short_moved here k slot standing at short (suc j) =
     let was : length (bytes_of the_images here (suc j)) ≤ 262144 = short (suc j) in

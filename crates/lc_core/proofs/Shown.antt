@@ -25,7 +25,7 @@ use Rattle.lc_core.specs.Seat.{Seat, Free, Open, Reserved, holder_of}
 use Rattle.lc_core.specs.Showing.{content_with, image_of, open_writer}
 use Rattle.lc_core.specs.Slots.{FitsSlots, besides_of, segment_to}
 use Rattle.lc_core.specs.declared.here.Here.{Here}
-use Rattle.lc_core.specs.declared.slot.Slot.{Slot}
+use Rattle.lc_core.specs.declared.segment_copy.SegmentCopy.{SegmentCopy}
 use Rattle.lc_core.proofs.Holding.{find-left, only-holder}
 use Rattle.lc_core.proofs.Seating.{seat_of}
 
@@ -106,14 +106,14 @@ module _ (m : Setting) (node : ℕ) (here : Here) (seats : List Seat) (s : State
     abbrev Shows : ℕ → List ℕ → Type 0
     Shows segment bytes = bytes ≡ image_of m s x node segment
 
-    with_token : (k : ℕ) (slot : Slot) (number : ℕ) → slice_get here.slots.items k ≡ Some slot → number_in slot.token.token ≡ Some number → Shows (suc k) slot.image.bytes.items
+    with_token : (k : ℕ) (slot : SegmentCopy) (number : ℕ) → slice_get here.slots.items k ≡ Some slot → number_in slot.token.token ≡ Some number → Shows (suc k) slot.image.bytes.items
     with_token k slot number at has =
         let is : IsHere the_images here (suc k) = (let some : number_at (slice_get here.slots.items k) ≡ Some number = ap number_at at ∙ has in subst IsSome (sym some) cc) in
         let here_is : is_at node (s.place (suc k)) ≡ true = ap (is_at node) (h.places (suc k) is) ∙ same_number node in
-        ap (λ (o : Option Slot). (image_at here.spare o).bytes.items) (sym at) ∙ here_shows (suc k) is
+        ap (λ (o : Option SegmentCopy). (image_at here.spare o).bytes.items) (sym at) ∙ here_shows (suc k) is
         ∙ ap (λ b. if b then segment_of (suc k) (content_with m s (open_writer (suc k) s)) else segment_to m s x.disks (suc k) (x.applied node (suc k))) (sym here_is)
 
-    away : (k : ℕ) (slot : Slot) → slice_get here.slots.items k ≡ Some slot → k < m.geometry.segments → number_in slot.token.token ≡ None → Shows (suc k) slot.image.bytes.items
+    away : (k : ℕ) (slot : SegmentCopy) → slice_get here.slots.items k ≡ Some slot → k < m.geometry.segments → number_in slot.token.token ≡ None → Shows (suc k) slot.image.bytes.items
     away k slot at below none =
         let nowhere : number_at (slice_get here.slots.items k) ≡ None = ap number_at at ∙ none in
         let not_here : is_at node (s.place (suc k)) ≡ false = h.elsewhere (suc k) (omega arith) (omega (arith, below)) nowhere in
@@ -124,7 +124,7 @@ module _ (m : Setting) (node : ℕ) (here : Here) (seats : List Seat) (s : State
         ∙ ap (λ b. if b then segment_of (suc k) (content_with m s (open_writer (suc k) s)) else segment_to m s x.disks (suc k) (x.applied node (suc k))) (sym not_here)
 
     -- the image in a slot
-    pub slot_shows : (k : ℕ) (slot : Slot) → slice_get here.slots.items k ≡ Some slot → k < m.geometry.segments → Shows (suc k) slot.image.bytes.items
+    pub slot_shows : (k : ℕ) (slot : SegmentCopy) → slice_get here.slots.items k ≡ Some slot → k < m.geometry.segments → Shows (suc k) slot.image.bytes.items
     slot_shows k slot at below = elim (number_in slot.token.token) as (λ (o : Option ℕ). number_in slot.token.token ≡ o → Shows (suc k) slot.image.bytes.items) [
       | None ↦ λ e. away k slot at below e
       | Some number ↦ λ e. with_token k slot number at e

@@ -46,7 +46,7 @@ use Rattle.lc_core.specs.Slots.{Besides, besides_of, segment_to, Awaits, FitsTok
 use Rattle.lc_core.specs.Turns.{seen}
 use Rattle.lc_core.specs.declared.here.Here.{Here}
 use Rattle.lc_core.specs.Seat.{Seat}
-use Rattle.lc_core.specs.declared.slot.Slot.{Slot}
+use Rattle.lc_core.specs.declared.segment_copy.SegmentCopy.{SegmentCopy}
 use Rattle.lc_core.proofs.Appending.{get-before}
 use Rattle.lc_core.proofs.Holding.{holders-proper}
 use Rattle.lc_core.proofs.Reserved.{closed_appended}
@@ -65,7 +65,7 @@ numbers_fit m n here s x h (suc k) is = at (slice_get here.slots.items k) refl i
     token_is None fits some = absurd cc
     token_is (Some token) fits some = ap (λ i. Some i) ((fits token refl).0.number ∙ ap (token_number s x) next)
 
-    at : (o : Option Slot) → slice_get here.slots.items k ≡ o → IsSome (number_at o) → number_at o ≡ Some (token_number s x (suc k))
+    at : (o : Option SegmentCopy) → slice_get here.slots.items k ≡ o → IsSome (number_at o) → number_at o ≡ Some (token_number s x (suc k))
     at None same some = absurd cc
     at (Some slot) same some = token_is slot.token.token (h.each k (beside slot) (get-map beside here.slots.items k slot same)).token some
 
@@ -137,7 +137,7 @@ places_at m node here seats s h k b token at stands = at_place (slice_get here.s
     next : k + 1 ≡ suc k
     next = omega arith
 
-    at_place : (o : Option Slot) → slice_get here.slots.items k ≡ o → s.place (k + 1) ≡ At node
+    at_place : (o : Option SegmentCopy) → slice_get here.slots.items k ≡ o → s.place (k + 1) ≡ At node
     at_place None same = absurd (let none : slice_get (besides_of here) k ≡ None = slice_get-map beside here.slots.items k ∙ ap (option_map beside) same in let no : None ≡ Some b = sym none ∙ at in cc)
     at_place (Some slot) same =
         let own : beside slot ≡ b = same_some (beside slot) b (sym (get-map beside here.slots.items k slot same) ∙ at) in
@@ -365,7 +365,7 @@ slots_set m n bs k b next s x at own h = record {
   ];
 }
 
-module _ (m : Setting) (n : ℕ) (here : Here) (k : ℕ) (slot : Slot) (at : slice_get here.slots.items k ≡ Some slot) (s : State) (x : Numbers) (h : FitsSlots m n (besides_of here) s x) where
+module _ (m : Setting) (n : ℕ) (here : Here) (k : ℕ) (slot : SegmentCopy) (at : slice_get here.slots.items k ≡ Some slot) (s : State) (x : Numbers) (h : FitsSlots m n (besides_of here) s x) where
   beside_at : slice_get (besides_of here) k ≡ Some (beside slot)
   beside_at = get-map beside here.slots.items k slot at
 

@@ -8,11 +8,11 @@ use Rattle.std.proofs.lemmas.List.Concat.{flat_map-append}
 use Rattle.std.proofs.lemmas.List.Sums.{sum_by-cons}
 use Rattle.lc_model.specs.History.{leading}
 use Rattle.lc_core.specs.Places.{same_some}
-use Rattle.lc_core.specs.declared.place.Place.{Place}
-use Rattle.lc_core.specs.Records.{Spelled, Kept, all_words, marks_of, count_of, front_of, span_of, closing, closed_at, spelled, places_of, shifted, AreKept}
+use Rattle.lc_core.specs.declared.record_end.RecordEnd.{RecordEnd}
+use Rattle.lc_core.specs.Records.{Spelled, KeptRecords, all_words, marks_of, count_of, front_of, span_of, closing, closed_at, spelled, places_of, shifted, AreKept}
 
 -- the fields of what contracts see so
-pub record Holds (first : ℕ) (words : List ℕ) (places : List Place) (gone front : ℕ) (k : Kept) : Type 0 where
+pub record Holds (first : ℕ) (words : List ℕ) (places : List RecordEnd) (gone front : ℕ) (k : KeptRecords) : Type 0 where
   pub whole : List Spelled
   pub before_is : first + gone ≡ k.before
   pub rest_is : drop gone whole ≡ k.records
@@ -26,7 +26,7 @@ pub length-places_of : (start : ℕ) (rs : List Spelled) → length (places_of s
 length-places_of start [] = refl
 length-places_of start (r ∷ rs) = ap suc (length-places_of (start + length r.words) rs)
 
-pub marks-places_of : (start : ℕ) (rs : List Spelled) → map (λ (p : Place). p.closed) (places_of start rs) ≡ marks_of rs
+pub marks-places_of : (start : ℕ) (rs : List Spelled) → map (λ (p : RecordEnd). p.closed) (places_of start rs) ≡ marks_of rs
 marks-places_of start [] = refl
 marks-places_of start (r ∷ rs) = ap (λ (bs : List Bool). r.closed ∷ bs) (marks-places_of (start + length r.words) rs)
 
@@ -39,14 +39,14 @@ spelled_again start (r ∷ rs) =
     ∙ ap (λ (ws : List ℕ). r ∷ spelled end ws (places_of end rs)) (drop_at r.words (all_words rs) (end - start) size)
     ∙ ap (λ (l : List Spelled). r ∷ l) (spelled_again end rs)
 
-pub held : (first : ℕ) (words : List ℕ) (places : List Place) (gone front : ℕ) (k : Kept) → AreKept first words places gone front
+pub held : (first : ℕ) (words : List ℕ) (places : List RecordEnd) (gone front : ℕ) (k : KeptRecords) → AreKept first words places gone front
     → record { before = first + gone; records = drop gone (spelled 0 words places) } ≡ k → Holds first words places gone front k
 held first words places gone front k h is =
     let count : length places ≡ length (spelled 0 words places) = ap length h.places_are ∙ length-places_of 0 (spelled 0 words places) in
     record {
       whole = spelled 0 words places;
-      before_is = ap (λ (k : Kept). k.before) is;
-      rest_is = ap (λ (k : Kept). k.records) is;
+      before_is = ap (λ (k : KeptRecords). k.before) is;
+      rest_is = ap (λ (k : KeptRecords). k.records) is;
       words_are = h.words_are;
       places_are = h.places_are;
       front_is = h.front_is;
@@ -54,18 +54,18 @@ held first words places gone front k h is =
       few = omega (arith, h.few, count);
     }
 
-whole_is : (first : ℕ) (words : List ℕ) (places : List Place) (gone front : ℕ) (k : Kept) (h : Holds first words places gone front k)
+whole_is : (first : ℕ) (words : List ℕ) (places : List RecordEnd) (gone front : ℕ) (k : KeptRecords) (h : Holds first words places gone front k)
     → spelled 0 words places ≡ h.whole
 whole_is first words places gone front k h = rw (h.words_are, h.places_are) (spelled_again 0 h.whole)
 
-pub seen_so : (first : ℕ) (words : List ℕ) (places : List Place) (gone front : ℕ) (k : Kept) → Holds first words places gone front k
+pub seen_so : (first : ℕ) (words : List ℕ) (places : List RecordEnd) (gone front : ℕ) (k : KeptRecords) → Holds first words places gone front k
     → record { before = first + gone; records = drop gone (spelled 0 words places) } ≡ k
 seen_so first words places gone front k h =
     ap (λ (rs : List Spelled). record { before = first + gone; records = drop gone rs }) (whole_is first words places gone front k h)
     ∙ ap (λ (rs : List Spelled). record { before = first + gone; records = rs }) h.rest_is
     ∙ ap (λ (n : ℕ). record { before = n; records = k.records }) h.before_is
 
-pub kept_so : (first : ℕ) (words : List ℕ) (places : List Place) (gone front : ℕ) (k : Kept) → Holds first words places gone front k
+pub kept_so : (first : ℕ) (words : List ℕ) (places : List RecordEnd) (gone front : ℕ) (k : KeptRecords) → Holds first words places gone front k
     → AreKept first words places gone front
 kept_so first words places gone front k h =
     let rs : spelled 0 words places ≡ h.whole = whole_is first words places gone front k h in
@@ -89,7 +89,7 @@ places_more start [] r end is =
     ap (λ (n : ℕ). record { end = n; closed = r.closed } ∷ []) same
 places_more start (x ∷ rs) r end is =
     let next : ℕ = start + length x.words in
-    ap (λ (ps : List Place). record { end = next; closed = x.closed } ∷ ps)
+    ap (λ (ps : List RecordEnd). record { end = next; closed = x.closed } ∷ ps)
     (places_more next rs r end (omega (arith, is, length-append x.words (all_words rs))))
 
 pub leading_more : (ms : List Bool) → leading (ms ++ false ∷ []) ≡ leading ms
@@ -99,7 +99,7 @@ leading_more (false ∷ ms) = refl
 
 -- where a record begins
 
-pub end_at : (start : ℕ) (rs : List Spelled) (place : ℕ) (d : Place) → place < length rs
+pub end_at : (start : ℕ) (rs : List Spelled) (place : ℕ) (d : RecordEnd) → place < length rs
     → (get_or (places_of start rs) place d).end ≡ start + length (all_words (take (suc place) rs))
 end_at start [] place d within = absurd (omega (arith, within))
 end_at start (r ∷ rs) zero d within = ap (λ (n : ℕ). start + n) (sym (ap length (append-nil r.words)))
@@ -161,12 +161,12 @@ closing_count place [] = refl
 closing_count zero (r ∷ rs) = refl
 closing_count (suc place) (r ∷ rs) = ap suc (closing_count place rs)
 
-pub closing_places : (start place : ℕ) (rs : List Spelled) (d : Place)
+pub closing_places : (start place : ℕ) (rs : List Spelled) (d : RecordEnd)
     → places_of start (closing place rs) ≡ slice_set (places_of start rs) place (record { end = (slice_index_or (places_of start rs) place d).end; closed = true })
 closing_places start place [] d = refl
 closing_places start zero (r ∷ rs) d = refl
 closing_places start (suc place) (r ∷ rs) d =
-    ap (λ (ps : List Place). record { end = start + length r.words; closed = r.closed } ∷ ps) (closing_places (start + length r.words) place rs d)
+    ap (λ (ps : List RecordEnd). record { end = start + length r.words; closed = r.closed } ∷ ps) (closing_places (start + length r.words) place rs d)
 
 pub closing_marks : (place : ℕ) (rs : List Spelled) → marks_of (closing place rs) ≡ slice_set (marks_of rs) place true
 closing_marks place [] = refl
@@ -179,13 +179,13 @@ closing_beyond place [] past = refl
 closing_beyond zero (r ∷ rs) past = absurd (omega (arith, past))
 closing_beyond (suc place) (r ∷ rs) past = ap (λ (xs : List Spelled). r ∷ xs) (closing_beyond place rs (omega (arith, past)))
 
-pub closed_below : (number : ℕ) (k : Kept) → number < k.before → closed_at number k ≡ k
+pub closed_below : (number : ℕ) (k : KeptRecords) → number < k.before → closed_at number k ≡ k
 closed_below number k below = ap (λ b. if b then k else record k { records = closing (number - k.before) k.records }) (lt-ltb number k.before below)
 
-pub closed_in : (number : ℕ) (k : Kept) → k.before ≤ number → closed_at number k ≡ record k { records = closing (number - k.before) k.records }
+pub closed_in : (number : ℕ) (k : KeptRecords) → k.before ≤ number → closed_at number k ≡ record k { records = closing (number - k.before) k.records }
 closed_in number k within = ap (λ b. if b then k else record k { records = closing (number - k.before) k.records }) (le-ltb number k.before within)
 
-pub closed_beyond : (number : ℕ) (k : Kept) → count_of k ≤ number → closed_at number k ≡ k
+pub closed_beyond : (number : ℕ) (k : KeptRecords) → count_of k ≤ number → closed_at number k ≡ k
 closed_beyond number k past =
     closed_in number k (omega (arith, past))
     ∙ ap (λ rs. record k { records = rs }) (closing_beyond (number - k.before) k.records (omega (arith, past)))
@@ -219,14 +219,14 @@ leading_set (true ∷ ms) (suc place) = leading_step (leading ms) (slice_set ms 
 leading_set (false ∷ ms) zero = omega arith
 leading_set (false ∷ ms) (suc place) = omega arith
 
-pub closed_next : (ps : List Place) (place : ℕ) (d : Place) → place < length ps → (slice_index_or ps place d).closed ≡ true
-    → leading (drop place (map (λ (p : Place). p.closed) ps)) ≡ 1 + leading (drop (suc place) (map (λ (p : Place). p.closed) ps))
+pub closed_next : (ps : List RecordEnd) (place : ℕ) (d : RecordEnd) → place < length ps → (slice_index_or ps place d).closed ≡ true
+    → leading (drop place (map (λ (p : RecordEnd). p.closed) ps)) ≡ 1 + leading (drop (suc place) (map (λ (p : RecordEnd). p.closed) ps))
 closed_next [] place d within is = absurd (omega (arith, within))
 closed_next (p ∷ ps) zero d within is = rw is refl
 closed_next (p ∷ ps) (suc place) d within is = closed_next ps place d (omega (arith, within)) is
 
-pub open_next : (ps : List Place) (place : ℕ) (d : Place) → place < length ps → (slice_index_or ps place d).closed ≡ false
-    → leading (drop place (map (λ (p : Place). p.closed) ps)) ≡ 0
+pub open_next : (ps : List RecordEnd) (place : ℕ) (d : RecordEnd) → place < length ps → (slice_index_or ps place d).closed ≡ false
+    → leading (drop place (map (λ (p : RecordEnd). p.closed) ps)) ≡ 0
 open_next [] place d within is = absurd (omega (arith, within))
 open_next (p ∷ ps) zero d within is = rw is refl
 open_next (p ∷ ps) (suc place) d within is = open_next ps place d (omega (arith, within)) is
@@ -246,10 +246,10 @@ places_shifted cut start end (r ∷ rs) is =
     let next : (end + length r.words) - cut ≡ start + length r.words = omega (arith, is) in
     let beyond : end + length r.words ≡ (start + length r.words) + cut = omega (arith, is) in
     ap (λ (n : ℕ). record { end = n; closed = r.closed } ∷ map (shifted cut) (places_of (end + length r.words) rs)) next
-    ∙ ap (λ (ps : List Place). record { end = start + length r.words; closed = r.closed } ∷ ps)
+    ∙ ap (λ (ps : List RecordEnd). record { end = start + length r.words; closed = r.closed } ∷ ps)
     (places_shifted cut (start + length r.words) (end + length r.words) rs beyond)
 
-pub ends_beyond : (cut end : ℕ) (rs : List Spelled) → cut ≤ end → (k : ℕ) (d : Place) → k < length (places_of end rs)
+pub ends_beyond : (cut end : ℕ) (rs : List Spelled) → cut ≤ end → (k : ℕ) (d : RecordEnd) → k < length (places_of end rs)
     → cut ≤ (slice_index_or (places_of end rs) k d).end
 ends_beyond cut end [] beyond k d within = absurd (omega (arith, within))
 ends_beyond cut end (r ∷ rs) beyond zero d within = omega (arith, beyond)
@@ -275,7 +275,7 @@ drop_closing (suc gone) (suc place) (r ∷ rs) few =
 
 -- the fields, and those after each change
 
-module _ (first : ℕ) (words : List ℕ) (places : List Place) (gone front : ℕ) (k : Kept) (h : Holds first words places gone front k) where
+module _ (first : ℕ) (words : List ℕ) (places : List RecordEnd) (gone front : ℕ) (k : KeptRecords) (h : Holds first words places gone front k) where
   pub few_gone : gone ≤ length h.whole
   few_gone = omega (arith, h.gone_closed, h.front_is, leading_le h.whole)
 
@@ -307,23 +307,23 @@ module _ (first : ℕ) (words : List ℕ) (places : List Place) (gone front : �
         before_is = h.before_is;
         rest_is = drop-append-le gone h.whole (r ∷ []) few_gone ∙ ap (λ (rs : List Spelled). rs ++ r ∷ []) h.rest_is;
         words_are = ap (λ (ws : List ℕ). ws ++ more) h.words_are ∙ sym (words_more h.whole r);
-        places_are = ap (λ (ps : List Place). ps ++ record { end = end; closed = false } ∷ []) h.places_are ∙ sym (places_more 0 h.whole r end size);
+        places_are = ap (λ (ps : List RecordEnd). ps ++ record { end = end; closed = false } ∷ []) h.places_are ∙ sym (places_more 0 h.whole r end size);
         front_is = h.front_is ∙ sym (ap leading (map-append (λ (r : Spelled). r.closed) h.whole (r ∷ [])) ∙ leading_more (marks_of h.whole));
         gone_closed = h.gone_closed;
         few = omega (arith, few, length-append h.whole (r ∷ []), h.before_is, few_gone, ap length h.rest_is, length-drop gone h.whole);
       }
 
-  pub closed_so : (place kept end now : ℕ) (d : Place) → place ≡ gone + kept → end ≡ (slice_index_or places place d).end
-      → now ≡ leading (map (λ (p : Place). p.closed) (slice_set places place (record { end = end; closed = true })))
+  pub closed_so : (place kept end now : ℕ) (d : RecordEnd) → place ≡ gone + kept → end ≡ (slice_index_or places place d).end
+      → now ≡ leading (map (λ (p : RecordEnd). p.closed) (slice_set places place (record { end = end; closed = true })))
       → Holds first words (slice_set places place (record { end = end; closed = true })) gone now (record k { records = closing kept k.records })
   closed_so place kept end now d at is count =
-      let same : end ≡ (slice_index_or (places_of 0 h.whole) place d).end = is ∙ ap (λ (ps : List Place). (slice_index_or ps place d).end) h.places_are in
+      let same : end ≡ (slice_index_or (places_of 0 h.whole) place d).end = is ∙ ap (λ (ps : List RecordEnd). (slice_index_or ps place d).end) h.places_are in
       let are : slice_set places place (record { end = end; closed = true }) ≡ places_of 0 (closing place h.whole) =
-      ap (λ (ps : List Place). slice_set ps place (record { end = end; closed = true })) h.places_are
+      ap (λ (ps : List RecordEnd). slice_set ps place (record { end = end; closed = true })) h.places_are
       ∙ ap (λ (n : ℕ). slice_set (places_of 0 h.whole) place (record { end = n; closed = true })) same
       ∙ sym (closing_places 0 place h.whole d) in
       let front_is : now ≡ leading (marks_of (closing place h.whole)) =
-      count ∙ ap (λ (ps : List Place). leading (map (λ (p : Place). p.closed) ps)) are ∙ ap leading (marks-places_of 0 (closing place h.whole)) in
+      count ∙ ap (λ (ps : List RecordEnd). leading (map (λ (p : RecordEnd). p.closed) ps)) are ∙ ap leading (marks-places_of 0 (closing place h.whole)) in
       let rest : place - gone ≡ kept = omega (arith, at) in
       record {
         whole = closing place h.whole;
@@ -339,12 +339,12 @@ module _ (first : ℕ) (words : List ℕ) (places : List Place) (gone front : �
       }
 
   -- from the marks that stood in front, the others are counted
-  pub known_so : (place end : ℕ) → front + leading (drop front (map (λ (p : Place). p.closed) (slice_set places place (record { end = end; closed = true }))))
-      ≡ leading (map (λ (p : Place). p.closed) (slice_set places place (record { end = end; closed = true })))
+  pub known_so : (place end : ℕ) → front + leading (drop front (map (λ (p : RecordEnd). p.closed) (slice_set places place (record { end = end; closed = true }))))
+      ≡ leading (map (λ (p : RecordEnd). p.closed) (slice_set places place (record { end = end; closed = true })))
   known_so place end =
-      let marks : map (λ (p : Place). p.closed) places ≡ marks_of h.whole = ap (map (λ (p : Place). p.closed)) h.places_are ∙ marks-places_of 0 h.whole in
-      let set : map (λ (p : Place). p.closed) (slice_set places place (record { end = end; closed = true })) ≡ slice_set (marks_of h.whole) place true =
-      map-set (λ (p : Place). p.closed) places place (record { end = end; closed = true }) ∙ ap (λ (ms : List Bool). slice_set ms place true) marks in
+      let marks : map (λ (p : RecordEnd). p.closed) places ≡ marks_of h.whole = ap (map (λ (p : RecordEnd). p.closed)) h.places_are ∙ marks-places_of 0 h.whole in
+      let set : map (λ (p : RecordEnd). p.closed) (slice_set places place (record { end = end; closed = true })) ≡ slice_set (marks_of h.whole) place true =
+      map-set (λ (p : RecordEnd). p.closed) places place (record { end = end; closed = true }) ∙ ap (λ (ms : List Bool). slice_set ms place true) marks in
       rw (set, h.front_is) (leading_set (marks_of h.whole) place)
 
   -- more in front are dropped
@@ -376,7 +376,7 @@ module _ (first : ℕ) (words : List ℕ) (places : List Place) (gone front : �
         rest_is = h.rest_is;
         words_are = ap (drop cut) h.words_are ∙ ap (λ (n : ℕ). drop n (all_words h.whole)) size ∙ words_from gone h.whole;
         places_are =
-            ap (λ (ps : List Place). map (shifted cut) (drop gone ps)) h.places_are
+            ap (λ (ps : List RecordEnd). map (shifted cut) (drop gone ps)) h.places_are
             ∙ ap (map (shifted cut)) (places_from gone 0 h.whole)
             ∙ places_shifted cut 0 (0 + length (all_words (take gone h.whole))) (drop gone h.whole) start;
         front_is = omega (arith, left, leading_drop gone (marks_of h.whole) less, h.front_is);
@@ -384,7 +384,7 @@ module _ (first : ℕ) (words : List ℕ) (places : List Place) (gone front : �
         few = omega (arith, h.few, length-drop gone h.whole, few_gone);
       }
 
-pub holds_as : (first : ℕ) (words words' : List ℕ) (places places' : List Place) (gone front : ℕ) (k : Kept)
+pub holds_as : (first : ℕ) (words words' : List ℕ) (places places' : List RecordEnd) (gone front : ℕ) (k : KeptRecords)
     → words ≡ words' → places ≡ places' → Holds first words' places' gone front k → Holds first words places gone front k
 holds_as first words words' places places' gone front k same same_places h = record {
   whole = h.whole;
@@ -399,7 +399,7 @@ holds_as first words words' places places' gone front k same same_places h = rec
 
 -- spans
 
-pub span_adjacent : (k : Kept) (from mid to : ℕ) → k.before ≤ from → from ≤ mid → mid ≤ to → span_of k from to ≡ span_of k from mid ++ span_of k mid to
+pub span_adjacent : (k : KeptRecords) (from mid to : ℕ) → k.before ≤ from → from ≤ mid → mid ≤ to → span_of k from to ≡ span_of k from mid ++ span_of k mid to
 span_adjacent k from mid to kept first second =
     let rest : List Spelled = drop (from - k.before) k.records in
     let all : to - from ≡ (mid - from) + (to - mid) = omega (arith, first, second) in
@@ -409,18 +409,18 @@ span_adjacent k from mid to kept first second =
     ∙ ap (λ (l : List Spelled). all_words (take (mid - from) rest) ++ all_words (take (to - mid) l))
     (drop-drop (mid - from) (from - k.before) k.records ∙ ap (λ (n : ℕ). drop n k.records) place)
 
-pub length-span : (k : Kept) (from mid to : ℕ) → k.before ≤ from → from ≤ mid → mid ≤ to → length (span_of k from to) ≡ length (span_of k from mid) + length (span_of k mid to)
+pub length-span : (k : KeptRecords) (from mid to : ℕ) → k.before ≤ from → from ≤ mid → mid ≤ to → length (span_of k from to) ≡ length (span_of k from mid) + length (span_of k mid to)
 length-span k from mid to kept first second =
     ap length (span_adjacent k from mid to kept first second) ∙ length-append (span_of k from mid) (span_of k mid to)
 
 -- as many of the places are of closed records as records are closed, from the same place on
 pub closed_places : (start : ℕ) (rs : List Spelled) (from : ℕ)
-    → count_by (λ (p : Place). p.closed) (drop from (places_of start rs)) ≡ count_by (λ (r : Spelled). r.closed) (drop from rs)
+    → count_by (λ (p : RecordEnd). p.closed) (drop from (places_of start rs)) ≡ count_by (λ (r : Spelled). r.closed) (drop from rs)
 closed_places start [] zero = refl
 closed_places start [] (suc from) = refl
 closed_places start (r ∷ rs) zero =
     let more = closed_places (start + length r.words) rs zero in
-    sum_by-cons (λ (p : Place). cond p.closed 1 0) (record { end = start + length r.words; closed = r.closed }) (places_of (start + length r.words) rs)
+    sum_by-cons (λ (p : RecordEnd). cond p.closed 1 0) (record { end = start + length r.words; closed = r.closed }) (places_of (start + length r.words) rs)
     ∙ ap (λ (n : ℕ). cond r.closed 1 0 + n) more
     ∙ sym (sum_by-cons (λ (r : Spelled). cond r.closed 1 0) r rs)
 closed_places start (r ∷ rs) (suc from) = closed_places (start + length r.words) rs from

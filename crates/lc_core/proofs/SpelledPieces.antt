@@ -12,7 +12,7 @@ use Rattle.lc_model.specs.History.{leading}
 use Rattle.lc_core.specs.Kept.{closed_record}
 use Rattle.lc_rest.specs.Parts.{AreSpelled}
 use Rattle.lc_core.specs.Pieces.{IsNodePiece}
-use Rattle.lc_core.specs.Records.{Kept, Spelled, all_words, marks_of, span_of}
+use Rattle.lc_core.specs.Records.{KeptRecords, Spelled, all_words, marks_of, span_of}
 use Rattle.lc_core.specs.declared.node_piece.NodePiece.{NodePiece}
 
 -- a record takes some words
@@ -28,10 +28,10 @@ leading_closed [] = refl
 leading_closed (r ∷ rs) = (let rest = leading_closed rs in omega (arith, rest))
 
 -- the words of the first of them
-span_front : (dropped stable : ℕ) (front behind : List Record) (k : Kept) → k ≡ record { before = dropped; records = map closed_record (front ++ behind) } → stable ≡ dropped + length front
+span_front : (dropped stable : ℕ) (front behind : List Record) (k : KeptRecords) → k ≡ record { before = dropped; records = map closed_record (front ++ behind) } → stable ≡ dropped + length front
     → span_of k k.before stable ≡ joined front
 span_front dropped stable front behind k is count =
-    ap (λ (m : Kept). span_of m m.before stable) is
+    ap (λ (m : KeptRecords). span_of m m.before stable) is
     ∙ ap (λ (n : ℕ). all_words (take n (drop (dropped - dropped) (map closed_record (front ++ behind))))) (let n : stable - dropped ≡ length (map closed_record front) = omega (arith, count, length-map front closed_record) in n)
     ∙ ap (λ (n : ℕ). all_words (take (length (map closed_record front)) (drop n (map closed_record (front ++ behind))))) (let n : dropped - dropped ≡ 0 = omega arith in n)
     ∙ ap (λ (l : List Spelled). all_words (take (length (map closed_record front)) l)) (map-append closed_record front behind)
@@ -42,9 +42,9 @@ pub piece_fits : {D : Type 0} (a : Ghosts D) (piece : NodePiece D a) (words drop
     → piece.records ≡ record { before = dropped; records = map closed_record (front ++ behind) } → piece.stable ≡ dropped + length front
     → piece.log.end ≡ length stable → piece.log.end + length staged ≤ words → length (a.now piece.log.area) ≡ 8 * (words + 1) → piece.round < 2 ^ 48 → IsNodePiece a words piece
 piece_fits a piece words dropped stable staged front behind first last records count end room area rounds =
-    let before : piece.records.before ≡ dropped = ap (λ (k : Kept). k.before) records in
-    let marks : leading (marks_of piece.records.records) ≡ length (front ++ behind) = ap (λ (k : Kept). leading (marks_of k.records)) records ∙ leading_closed (front ++ behind) in
-    let all : all_words piece.records.records ≡ joined front ++ joined behind = ap (λ (k : Kept). all_words k.records) records ∙ words_closed (front ++ behind) ∙ joined-append front behind in
+    let before : piece.records.before ≡ dropped = ap (λ (k : KeptRecords). k.before) records in
+    let marks : leading (marks_of piece.records.records) ≡ length (front ++ behind) = ap (λ (k : KeptRecords). leading (marks_of k.records)) records ∙ leading_closed (front ++ behind) in
+    let all : all_words piece.records.records ≡ joined front ++ joined behind = ap (λ (k : KeptRecords). all_words k.records) records ∙ words_closed (front ++ behind) ∙ joined-append front behind in
     record {
       area = area;
       kept = omega (arith, before, count);

@@ -15,8 +15,8 @@ use Rattle.lc_core.specs.HonestAreas.{HonestUp}
 use Rattle.lc_core.specs.Log.{area_of}
 use Rattle.lc_core.specs.Pages.{areas_of}
 use Rattle.lc_core.specs.Places.{get_set_other, get_set_same, same_some}
-use Rattle.lc_core.specs.declared.node.Node.{Node}
-use Rattle.lc_core.specs.declared.phase.Phase.TheVariants.{Up}
+use Rattle.lc_core.specs.declared.node_state.NodeState.{NodeState}
+use Rattle.lc_core.specs.declared.world_phase.WorldPhase.TheVariants.{Up}
 use Rattle.lc_core.specs.declared.up.Up.{Up as Rising}
 use Rattle.lc_core.proofs.Devices.{log_area_of}
 use Rattle.lc_core.proofs.Stopped.{are_of, segment_at, their_honesty}
@@ -24,15 +24,15 @@ use Rattle.lc_core.proofs.Stopped.{are_of, segment_at, their_honesty}
 module _ {D : Type 0} (a : Ghosts D) where
   -- The areas of a store that fits
 
-  pub record Gathered (nodes : List (Node D a)) : Type 0 where
+  pub record Gathered (nodes : List (NodeState D a)) : Type 0 where
     pub logs : List D
     pub count : length logs ≡ length nodes
-    pub each : (n : ℕ) (node : Node D a) → slice_get nodes n ≡ Some node → area_of a node.journal.log ≡ slice_get logs n
+    pub each : (n : ℕ) (node : NodeState D a) → slice_get nodes n ≡ Some node → area_of a node.journal.log ≡ slice_get logs n
 
-  pub gathered : (nodes : List (Node D a)) → ((n : ℕ) (node : Node D a) → slice_get nodes n ≡ Some node → (area : D) × (area_of a node.journal.log ≡ Some area)) → Gathered nodes
+  pub gathered : (nodes : List (NodeState D a)) → ((n : ℕ) (node : NodeState D a) → slice_get nodes n ≡ Some node → (area : D) × (area_of a node.journal.log ≡ Some area)) → Gathered nodes
   gathered [] have = record { logs = []; count = refl; each = λ n node at. absurd (none_there n node at) }
     where
-      none_there : (n : ℕ) (node : Node D a) → slice_get [] n ≡ Some node → ⊥
+      none_there : (n : ℕ) (node : NodeState D a) → slice_get [] n ≡ Some node → ⊥
       none_there n node at = absurd (let within = slice_get_within [] n node at in omega (arith, within))
   gathered (node ∷ nodes) have =
       let first = have 0 node refl in
@@ -40,8 +40,8 @@ module _ {D : Type 0} (a : Ghosts D) where
       record {
         logs = first.0 ∷ others.logs;
         count = ap suc others.count;
-        each = λ n. elim n as (λ (n : ℕ). (its : Node D a) → slice_get (node ∷ nodes) n ≡ Some its → area_of a its.journal.log ≡ slice_get (first.0 ∷ others.logs) n) [
-          | zero ↦ λ its at. ap (λ (o : Node D a). area_of a o.journal.log) (sym (same_some node its at)) ∙ first.1
+        each = λ n. elim n as (λ (n : ℕ). (its : NodeState D a) → slice_get (node ∷ nodes) n ≡ Some its → area_of a its.journal.log ≡ slice_get (first.0 ∷ others.logs) n) [
+          | zero ↦ λ its at. ap (λ (o : NodeState D a). area_of a o.journal.log) (sym (same_some node its at)) ∙ first.1
           | suc n ↦ λ its at. others.each n its at
         ];
       }

@@ -30,10 +30,10 @@ use Rattle.lc_core.specs.Pages.{areas_of}
 use Rattle.lc_core.specs.Settled.{settled_answer}
 use Rattle.lc_core.specs.Stops.{AreLeftBy, HasAreas, IsLeftBy, StopsAll}
 use Rattle.lc_core.specs.World.{FitsDown, FitsPhase, Leads}
-use Rattle.lc_core.specs.declared.node.Node.{Node}
+use Rattle.lc_core.specs.declared.node_state.NodeState.{NodeState}
 use Rattle.lc_core.specs.declared.pages.Pages.{Pages}
-use Rattle.lc_core.specs.declared.phase.Phase.{Phase}
-use Rattle.lc_core.specs.declared.phase.Phase.TheVariants.{Down, Up, Taken}
+use Rattle.lc_core.specs.declared.world_phase.WorldPhase.{WorldPhase}
+use Rattle.lc_core.specs.declared.world_phase.WorldPhase.TheVariants.{Down, Up, Taken}
 use Rattle.lc_core.specs.declared.up.Up.{Up as Rising}
 use Rattle.lc_core.proofs.Devices.{log_area_of}
 use Rattle.lc_core.proofs.Failures.{beside_segments}
@@ -59,7 +59,7 @@ module _ {D : Type 0} (a : Ghosts D) where
     segments_count = length-map up.segments.items (λ (p : Pages D a). p.area) ∙ sym up.segments.ok.0 ∙ up.all_segments
 
     -- those of the logs, and those of the segments after them
-    pub are_of : (logs all : List D) → ((n : ℕ) (node : Node D a) → slice_get up.running.nodes.items n ≡ Some node → area_of a node.journal.log ≡ slice_get logs n)
+    pub are_of : (logs all : List D) → ((n : ℕ) (node : NodeState D a) → slice_get up.running.nodes.items n ≡ Some node → area_of a node.journal.log ≡ slice_get logs n)
         → length logs ≡ up.running.nodes.len → all ≡ logs ++ areas_of a up.segments.items → AreOf a up all
     are_of logs all each count is =
         let many : length logs ≡ up.running.geometry.nodes = count ∙ up.running.all_nodes in
@@ -76,7 +76,7 @@ module _ {D : Type 0} (a : Ghosts D) where
       segment_at k pages at = sym (get-drop up.running.geometry.nodes k areas) ∙ ap (λ (l : List D). slice_get l k) (sym are.segments) ∙ get-map (λ (p : Pages D a). p.area) up.segments.items k pages at
 
       -- the log of a node
-      log_at : (k : ℕ) → k < up.running.geometry.nodes → (node : Node D a) × (slice_get up.running.nodes.items k ≡ Some node) × (area_of a node.journal.log ≡ slice_get areas k)
+      log_at : (k : ℕ) → k < up.running.geometry.nodes → (node : NodeState D a) × (slice_get up.running.nodes.items k ≡ Some node) × (area_of a node.journal.log ≡ slice_get areas k)
       log_at k within =
           let node = get-some up.running.nodes.items k (omega (arith, within, nodes_count)) in
           (node.0, node.1, are.logs k node.0 node.1)
@@ -129,7 +129,7 @@ module _ {D : Type 0} (a : Ghosts D) where
   ]
 
   -- a stop that the row allows, at an area's new state
-  leads_by_stop : (m : Setting) (s : State) (x : Numbers) (choices : List (List Choice)) (after : State) (new : Phase D a) → StopRow s.phase m.geometry s IsDown after → FitsPhase a m new after (record x { steps = 0 })
+  leads_by_stop : (m : Setting) (s : State) (x : Numbers) (choices : List (List Choice)) (after : State) (new : WorldPhase D a) → StopRow s.phase m.geometry s IsDown after → FitsPhase a m new after (record x { steps = 0 })
       → Leads a m (Stop choices) s x IsDown new
   leads_by_stop m s x choices after new row fits =
       let open_none : settled_answer m s x (Stop choices) ≡ None = ap (λ (c : Option Refusal). if is_some c then None else None) (stop_common m s choices) in
@@ -174,24 +174,24 @@ module _ {D : Type 0} (a : Ghosts D) where
           steps_are = refl;
         })
 
-    pub stop_leads : (old new : Phase D a) → StopsAll a old new → FitsPhase a m old s x → Leads a m (Stop choices) s x IsDown new
+    pub stop_leads : (old new : WorldPhase D a) → StopsAll a old new → FitsPhase a m old s x → Leads a m (Stop choices) s x IsDown new
     stop_leads (Down r) new stops h =
-        subst (λ (p : Phase D a). Leads a m (Stop choices) s x IsDown p) (sym stops.recovers)
+        subst (λ (p : WorldPhase D a). Leads a m (Stop choices) s x IsDown p) (sym stops.recovers)
         (subst (λ (g : Geometry). Leads a m (Stop choices) s x IsDown (Down (begun g stops.news))) (sym stops.were.0)
         (stops_down r stops.news (subst (λ (areas : List D). AreStopped a areas stops.news) stops.were.1 stops.stopped) h))
     stop_leads (Up up) new stops h =
-        subst (λ (p : Phase D a). Leads a m (Stop choices) s x IsDown p) (sym stops.recovers)
+        subst (λ (p : WorldPhase D a). Leads a m (Stop choices) s x IsDown p) (sym stops.recovers)
         (subst (λ (g : Geometry). Leads a m (Stop choices) s x IsDown (Down (begun g stops.news))) (sym stops.were.0)
         (stops_up up stops.olds stops.news stops.were.1 stops.stopped h))
     stop_leads Taken new stops h = absurd h
 
-  pub by_stops : (old : Phase D a) (g : Geometry) (olds news : List D) (new : Phase D a) → HasAreas a old g olds → AreStopped a olds news → new ≡ Down (begun g news) → StopsAll a old new
+  pub by_stops : (old : WorldPhase D a) (g : Geometry) (olds news : List D) (new : WorldPhase D a) → HasAreas a old g olds → AreStopped a olds news → new ≡ Down (begun g news) → StopsAll a old new
   by_stops (Down r) g olds news new were stopped recovers = record { geometry = g; olds = olds; news = news; were = were; stopped = stopped; recovers = recovers }
   by_stops (Up up) g olds news new were stopped recovers = record { geometry = g; olds = olds; news = news; were = were; stopped = stopped; recovers = recovers }
   by_stops Taken g olds news new were stopped recovers = absurd were
 
   -- a store has one list of areas
-  pub one_list : (phase : Phase D a) (g h : Geometry) (xs ys : List D) → HasAreas a phase g xs → HasAreas a phase h ys → xs ≡ ys
+  pub one_list : (phase : WorldPhase D a) (g h : Geometry) (xs ys : List D) → HasAreas a phase g xs → HasAreas a phase h ys → xs ≡ ys
   one_list (Down r) g h xs ys one other = one.1 ∙ sym other.1
   one_list (Up up) g h xs ys one other = same_lists xs ys (one.1.count ∙ sym other.1.count) each
     where
@@ -216,21 +216,21 @@ module _ {D : Type 0} (a : Ghosts D) where
   one_list Taken g h xs ys one other = absurd one
 
   -- so what is said of one stop of them is said of the store
-  pub left_so : (left : D → List Choice → ℕ → ℕ) (choices : List (List Choice)) (old : Phase D a) (g : Geometry) (olds news : List D) (new : Phase D a) → HasAreas a old g olds
+  pub left_so : (left : D → List Choice → ℕ → ℕ) (choices : List (List Choice)) (old : WorldPhase D a) (g : Geometry) (olds news : List D) (new : WorldPhase D a) → HasAreas a old g olds
       → AreLeftBy a left choices olds news → new ≡ Down (begun g news) → IsLeftBy a left choices old new
   left_so left choices old g olds news new were are recovers = λ shape other befores afters before after.
       subst (λ (xs : List D). AreLeftBy a left choices xs afters) (one_list old g shape olds befores were before)
-      (subst (λ (ys : List D). AreLeftBy a left choices olds ys) (sym (subst (λ (p : Phase D a). HasAreas a p other afters) recovers after).1) are)
+      (subst (λ (ys : List D). AreLeftBy a left choices olds ys) (sym (subst (λ (p : WorldPhase D a). HasAreas a p other afters) recovers after).1) are)
 
   -- no failure is counted
-  pub areas_failed : (phase : Phase D a) (g : Geometry) (areas : List D) → HasAreas a phase g areas → phase_failures a phase ≡ area_failures a areas
+  pub areas_failed : (phase : WorldPhase D a) (g : Geometry) (areas : List D) → HasAreas a phase g areas → phase_failures a phase ≡ area_failures a areas
   areas_failed (Down r) g areas are = ap (area_failures a) (sym are.1)
   areas_failed (Up up) g areas are =
       let count = are.1.count in
       beside_segments a up.running.nodes.items up.segments.items areas up.running.geometry.nodes are.1.logs are.1.segments (nodes_count up) (omega (arith, count))
   areas_failed Taken g areas are = absurd are
 
-  pub stop_counts : (old new : Phase D a) → StopsAll a old new → phase_failures a new ≡ phase_failures a old
+  pub stop_counts : (old new : WorldPhase D a) → StopsAll a old new → phase_failures a new ≡ phase_failures a old
   stop_counts (Down r) new stops = ap (phase_failures a) stops.recovers ∙ stopped_failures a stops.olds stops.news stops.stopped ∙ sym (areas_failed (Down r) stops.geometry stops.olds stops.were)
   stop_counts (Up up) new stops = ap (phase_failures a) stops.recovers ∙ stopped_failures a stops.olds stops.news stops.stopped ∙ sym (areas_failed (Up up) stops.geometry stops.olds stops.were)
   stop_counts Taken new stops = ap (phase_failures a) stops

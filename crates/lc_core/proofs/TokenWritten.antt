@@ -3,7 +3,7 @@ use Rattle.std.proofs.Common.{◌≡◌, ◌≢◌, ℕ, ◌^◌, ◌<◌, ◌�
 use Rattle.std.specs.Prelude.{max, nat_lt}
 use Rattle.std.specs.Option.{unwrap_or}
 use Rattle.std.proofs.lemmas.Bool.{cases_eq}
-use Rattle.lc_page.specs.declared.entry.Entry.{Entry}
+use Rattle.lc_page.specs.declared.page_entry.PageEntry.{PageEntry}
 use Rattle.lc_page.specs.declared.page_text.PageText.{PageText}
 use Rattle.lc_page.specs.PageVector.{entry_at, entry_text, is_dirty as is_dirty_entry, no_entry, settled, settled_text}
 use Rattle.lc_record.specs.Marks.{counting}
@@ -31,7 +31,7 @@ module _ (m : Setting) (s : State) (x : Numbers) (node segment page : ℕ) (old 
   abbrev y : Numbers
   y = written m.geometry s x node segment page
 
-  abbrev put : Entry
+  abbrev put : PageEntry
   put = settled (entry_at old.pages page) text.sequence
 
   there : page < length old.pages
@@ -39,10 +39,10 @@ module _ (m : Setting) (s : State) (x : Numbers) (node segment page : ℕ) (old 
 
   -- the entry of the page is settled, and the others stay
   own_entry : entry_at new.pages page ≡ put
-  own_entry = ap (λ (l : List Entry). entry_at l page) is.pages ∙ get_or-set_same old.pages page put no_entry there
+  own_entry = ap (λ (l : List PageEntry). entry_at l page) is.pages ∙ get_or-set_same old.pages page put no_entry there
 
   other_entry : (other : ℕ) → other ≢ page → entry_at new.pages other ≡ entry_at old.pages other
-  other_entry other differ = ap (λ (l : List Entry). entry_at l other) is.pages ∙ get_or-set_other old.pages page other put no_entry differ
+  other_entry other differ = ap (λ (l : List PageEntry). entry_at l other) is.pages ∙ get_or-set_other old.pages page other put no_entry differ
 
   -- so are the numbers
   page_is : (other : ℕ) → (settled_with x.disks segment page (x.disks.begun segment page)).page segment other ≡ update_at x.disks.page segment page text segment other
@@ -62,14 +62,14 @@ module _ (m : Setting) (s : State) (x : Numbers) (node segment page : ℕ) (old 
 
   stable_now : (other : ℕ) → other < m.geometry.pages → (entry_at new.pages other).stable ≡ stable z segment other
   stable_now other known = elim (cases_eq other page) [
-    | inl same ↦ ap (λ (i : ℕ). (entry_at new.pages i).stable) same ∙ ap (λ (e : Entry). e.stable) own_entry ∙ sym stable_own ∙ sym (ap (stable z segment) same)
-    | inr differ ↦ ap (λ (e : Entry). e.stable) (other_entry other differ) ∙ h.stable_is other known ∙ sym (stable_other other differ)
+    | inl same ↦ ap (λ (i : ℕ). (entry_at new.pages i).stable) same ∙ ap (λ (e : PageEntry). e.stable) own_entry ∙ sym stable_own ∙ sym (ap (stable z segment) same)
+    | inr differ ↦ ap (λ (e : PageEntry). e.stable) (other_entry other differ) ∙ h.stable_is other known ∙ sym (stable_other other differ)
   ]
 
   touched_now : (other : ℕ) → other < m.geometry.pages → (entry_at new.pages other).touched ≡ x.touched segment other
   touched_now other known = elim (cases_eq other page) [
-    | inl same ↦ ap (λ (i : ℕ). (entry_at new.pages i).touched) same ∙ ap (λ (e : Entry). e.touched) own_entry ∙ h.touched page within ∙ sym (ap (x.touched segment) same)
-    | inr differ ↦ ap (λ (e : Entry). e.touched) (other_entry other differ) ∙ h.touched other known
+    | inl same ↦ ap (λ (i : ℕ). (entry_at new.pages i).touched) same ∙ ap (λ (e : PageEntry). e.touched) own_entry ∙ h.touched page within ∙ sym (ap (x.touched segment) same)
+    | inr differ ↦ ap (λ (e : PageEntry). e.touched) (other_entry other differ) ∙ h.touched other known
   ]
 
   dirty_now : (other : ℕ) → other < m.geometry.pages → is_dirty_entry (entry_at new.pages other) ≡ is_dirty z segment other
@@ -106,7 +106,7 @@ module _ (m : Setting) (s : State) (x : Numbers) (node segment page : ℕ) (old 
           ∙ sym (other_segment x.texts segment page (settled_text (x.texts segment page) (begun_number (x.disks.begun segment page))) other differ)
     ];
     uncounted = λ other known. elim (cases_eq other page) [
-      | inl same ↦ ap (λ (i : ℕ). (entry_at new.pages i).uncommitted) same ∙ ap (λ (e : Entry). e.uncommitted) own_entry ∙ h.uncounted page within
-      | inr differ ↦ ap (λ (e : Entry). e.uncommitted) (other_entry other differ) ∙ h.uncounted other known
+      | inl same ↦ ap (λ (i : ℕ). (entry_at new.pages i).uncommitted) same ∙ ap (λ (e : PageEntry). e.uncommitted) own_entry ∙ h.uncounted page within
+      | inr differ ↦ ap (λ (e : PageEntry). e.uncommitted) (other_entry other differ) ∙ h.uncounted other known
     ];
   }

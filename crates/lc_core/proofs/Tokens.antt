@@ -29,7 +29,7 @@ use Rattle.lc_core.specs.Follows.{FitsJournal}
 use Rattle.lc_core.specs.Desk.{FitsDesk}
 use Rattle.lc_core.specs.Here.{beside, the_images, number_in, number_at, image_at}
 use Rattle.lc_core.specs.Leaves.{Leaves, MayLeave}
-use Rattle.lc_core.specs.Node.{FitsNode, GoesOn}
+use Rattle.lc_core.specs.NodeState.{FitsNode, GoesOn}
 use Rattle.lc_core.specs.Numbers.{Numbers, token_number}
 use Rattle.lc_core.specs.Places.{same_some}
 use Rattle.lc_core.specs.Settled.{Settled, is_writing, leave_answer, arrive_answer, open_answer, refusal_or}
@@ -39,8 +39,8 @@ use Rattle.lc_core.specs.Turns.{seen}
 use Rattle.lc_core.specs.declared.desk.Desk.{Desk}
 use Rattle.lc_core.specs.declared.here.Here.{Here}
 use Rattle.lc_core.specs.declared.journal.Journal.{Journal}
-use Rattle.lc_core.specs.declared.node.Node.{Node}
-use Rattle.lc_core.specs.declared.slot.Slot.{Slot}
+use Rattle.lc_core.specs.declared.node_state.NodeState.{NodeState}
+use Rattle.lc_core.specs.declared.segment_copy.SegmentCopy.{SegmentCopy}
 use Rattle.lc_trunc.specs.KnownClean.{Sees, known as known_of}
 use Rattle.lc_model.specs.Moves.{update_at}
 use Rattle.lc_core.proofs.Gained.{other_node, other_segment}
@@ -50,7 +50,7 @@ use Rattle.lc_core.proofs.Others.{beside_placed}
 use Rattle.lc_core.proofs.Slotted.{aside_placed, aside_known, none_held, slots_placed, slots_known, slots_left, slots_arrived, token_left, token_placed, waits}
 
 -- what is at the place of a segment
-here_at : (here : Here) (segment : ℕ) (slot : Slot) → 1 ≤ segment → slice_get here.slots.items (segment - 1) ≡ Some slot
+here_at : (here : Here) (segment : ℕ) (slot : SegmentCopy) → 1 ≤ segment → slice_get here.slots.items (segment - 1) ≡ Some slot
     → (the_images.number_of here segment ≡ number_in slot.token.token) × (the_images.image_of here segment ≡ slot.image)
 here_at here segment slot first at =
     let is : segment ≡ suc (segment - 1) = omega (arith, first) in (
@@ -89,7 +89,7 @@ module _ {D : Type 0} (a : Ghosts D) where
   }
 
   -- where nothing has changed
-  pub same_goes : (m : Setting) (n : ℕ) (s : State) (x : Numbers) (old : Node D a) (new : Desk) → new.here.slots.items ≡ old.desk.here.slots.items → FitsDesk m n new.here new.seats.items s
+  pub same_goes : (m : Setting) (n : ℕ) (s : State) (x : Numbers) (old : NodeState D a) (new : Desk) → new.here.slots.items ≡ old.desk.here.slots.items → FitsDesk m n new.here new.seats.items s
       → FitsNode a m n old s x → FitsNode a m n (record { desk = new; journal = old.journal; known = old.known }) s x
   same_goes m n s x old new slots desk h = record {
     desk = desk;
@@ -100,7 +100,7 @@ module _ {D : Type 0} (a : Ghosts D) where
     known = h.known;
   }
 
-  module _ (m : Setting) (n : ℕ) (s : State) (x : Numbers) (sound : Sound m.geometry s) (old : Node D a) (h : FitsNode a m n old s x) (new : Desk) where
+  module _ (m : Setting) (n : ℕ) (s : State) (x : Numbers) (sound : Sound m.geometry s) (old : NodeState D a) (h : FitsNode a m n old s x) (new : Desk) where
     -- a token leaves
     module _ (segment : ℕ) (first : 1 ≤ segment) (last : segment ≤ m.geometry.segments) (writing : Bool) (count stable : ℕ) (counts : count ≡ reserved n s.history) (stables : stable ≡ s.ack n) (told : writing ≡ is_writing m x segment) where
       leave_settled : leave_answer m s x n segment ≡ Accepted → ForSome (open_answer m s x (Leave n segment)) (λ answer. Accepted ≡ answer)
@@ -111,7 +111,7 @@ module _ {D : Type 0} (a : Ghosts D) where
           behind (Some refusal) same = absurd cc
 
       pub token_leaves : (token : Token) → Leaves segment writing count stable old.desk (Ok token) new
-          → ((slot : Slot) → slice_get old.desk.here.slots.items (segment - 1) ≡ Some slot → MayLeave writing count stable slot)
+          → ((slot : SegmentCopy) → slice_get old.desk.here.slots.items (segment - 1) ≡ Some slot → MayLeave writing count stable slot)
           → (goes : GoesOn a m n (Leave n segment) s x Accepted (record { desk = new; journal = old.journal; known = old.known })) × (goes.after.place segment ≡ Travelling)
           × FitsToken m segment token goes.after goes.next
       token_leaves token left may =
@@ -168,7 +168,7 @@ module _ {D : Type 0} (a : Ghosts D) where
           (same_goes m n s x old new left.0.slots (left.0.fits m n s h.desk) h)
 
     -- a token arrives
-    module _ (token : Token) (first : 1 ≤ token.segment) (slot : Slot) (at : slice_get old.desk.here.slots.items (token.segment - 1) ≡ Some slot) (empty : slot.token.token ≡ None)
+    module _ (token : Token) (first : 1 ≤ token.segment) (slot : SegmentCopy) (at : slice_get old.desk.here.slots.items (token.segment - 1) ≡ Some slot) (empty : slot.token.token ≡ None)
         (travels : s.place token.segment ≡ Travelling) (its : FitsToken m token.segment token s x) where
       is : (token.segment - 1) + 1 ≡ token.segment
       is = omega (arith, first)
@@ -248,7 +248,7 @@ module _ {D : Type 0} (a : Ghosts D) where
           (same_goes m n s x old new came.2.slots (came.2.fits m n s h.desk) h))
 
 -- where a token of the segment stands, none of it is on its way
-pub stands_here : (m : Setting) (n : ℕ) (w : Desk) (s : State) (segment : ℕ) (slot : Slot) → FitsDesk m n w.here w.seats.items s → 1 ≤ segment
+pub stands_here : (m : Setting) (n : ℕ) (w : Desk) (s : State) (segment : ℕ) (slot : SegmentCopy) → FitsDesk m n w.here w.seats.items s → 1 ≤ segment
     → slice_get w.here.slots.items (segment - 1) ≡ Some slot → (slot.token.token ≡ None → ⊥) → s.place segment ≡ Travelling → ⊥
 stands_here m n w s segment slot h first at some travels = by_token slot.token.token refl
   where

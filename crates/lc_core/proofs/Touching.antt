@@ -4,11 +4,11 @@ use Rattle.std.proofs.lemmas.Bool.{and_parts, and_cases, cases_lt, ltb-true, ltb
 use Rattle.std.proofs.lemmas.List.{length-set}
 use Rattle.std.specs.Int.{div_ceil}
 use Rattle.std.specs.Prelude.{slice_set}
-use Rattle.lc_page.specs.declared.entry.Entry.{Entry}
+use Rattle.lc_page.specs.declared.page_entry.PageEntry.{PageEntry}
 use Rattle.lc_page.specs.PageVector.{entry_at, no_entry, touched_at}
 use Rattle.lc_token.specs.Standing.{Standing}
 use Rattle.lc_token.specs.declared.token.Token.{Token}
-use Rattle.lc_core.specs.declared.slot.Slot.{Slot}
+use Rattle.lc_core.specs.declared.segment_copy.SegmentCopy.{SegmentCopy}
 use Rattle.lc_core.specs.Counts.{TouchesSlot, is_on}
 
 -- the pages between two are changed under the token's number
@@ -21,7 +21,7 @@ pub record TouchedBetween (from below : ℕ) (old new : Token) : Type 0 where
   pub in_front : (page : ℕ) → page < from → entry_at new.pages page ≡ entry_at old.pages page
   pub behind : (page : ℕ) → below ≤ page → entry_at new.pages page ≡ entry_at old.pages page
 
-pub record Touching (from below : ℕ) (token : Token) (old new : Slot) : Type 0 where
+pub record Touching (from below : ℕ) (token : Token) (old new : SegmentCopy) : Type 0 where
   pub after : Token
   pub slot_is : new ≡ record old { token = record old.token { token = Some after } }
   pub between : TouchedBetween from below token after
@@ -30,7 +30,7 @@ pub record Touching (from below : ℕ) (token : Token) (old new : Slot) : Type 0
 token_step : (from below : ℕ) (old now : Token) → TouchedBetween from below old now → from ≤ below → below < length old.pages
     → TouchedBetween from (below + 1) old (record now { pages = slice_set now.pages below (touched_at (entry_at now.pages below) now.seq) })
 token_step from below old now h order within =
-    let x : Entry = touched_at (entry_at now.pages below) now.seq in
+    let x : PageEntry = touched_at (entry_at now.pages below) now.seq in
     let among : below < length now.pages = omega (arith, h.same_count, within) in
     let here : entry_at (slice_set now.pages below x) below ≡ touched_at (entry_at old.pages below) old.seq =
     get_or-set_same now.pages below x no_entry among
@@ -49,7 +49,7 @@ token_step from below old now h order within =
       behind = λ page le. other page (λ e. omega (arith, e, le)) ∙ h.behind page (omega (arith, le));
     }
 
-pub touching_step : (from below : ℕ) (token : Token) (old now : Slot) (place : Standing) → Touching from below token old now → from ≤ below
+pub touching_step : (from below : ℕ) (token : Token) (old now : SegmentCopy) (place : Standing) → Touching from below token old now → from ≤ below
     → below < length token.pages
     → ((t : Token) → now.token.token ≡ Some t → place ≡ record now.token { token = Some (record t { pages = slice_set t.pages below (touched_at (entry_at t.pages below) t.seq) }) })
     → Touching from (below + 1) token old (record now { token = place })
@@ -58,8 +58,8 @@ touching_step from below token old now place h order within is =
     let after : Token = record a { pages = slice_set a.pages below (touched_at (entry_at a.pages below) a.seq) } in record {
       after = after;
       slot_is =
-          ap (λ (p : Standing). record now { token = p }) (is a (ap (λ (s : Slot). s.token.token) h.slot_is))
-          ∙ ap (λ (s : Slot). record s { token = record s.token { token = Some after } }) h.slot_is;
+          ap (λ (p : Standing). record now { token = p }) (is a (ap (λ (s : SegmentCopy). s.token.token) h.slot_is))
+          ∙ ap (λ (s : SegmentCopy). record s { token = record s.token { token = Some after } }) h.slot_is;
       between = token_step from below token a h.between order within;
     }
 
@@ -67,7 +67,7 @@ pub if_is : {A : Type 0} (b : Bool) (x y z : A) → (b ≡ true → z ≡ x) →
 if_is b x y z one another = elim b as (λ b. (b ≡ true → z ≡ x) → (b ≡ false → z ≡ y) → z ≡ (if b then x else y)) [ true ↦ λ p q. p refl | false ↦ λ p q. q refl ] one another
 
 -- the pages up to the last one that has one of these positions, or to the last of all
-pub touching_end : (offset len behind page : ℕ) (token : Token) (old new : Slot) → Touching (offset / 256) page token old new
+pub touching_end : (offset len behind page : ℕ) (token : Token) (old new : SegmentCopy) → Touching (offset / 256) page token old new
     → (offset / 256 < page → page ≤ div_ceil (offset + len) 256) → behind ≡ min (div_ceil (offset + len) 256) (length token.pages) → behind ≤ page
     → TouchesSlot offset len token old new
 touching_end offset len behind page token old new h few is done =

@@ -16,14 +16,14 @@ use Rattle.lc_model.specs.declared.reply.Reply.{Reply}
 use Rattle.lc_model.specs.declared.reply.Reply.TheVariants.{Refused}
 use Rattle.lc_model.specs.Refusals.{are_known, by_node, is_node, is_segment}
 use Rattle.lc_model.proofs.Rows.{arrive-no_turn, node_known}
-use Rattle.lc_core.specs.Node.{GoesOn, moved_by}
+use Rattle.lc_core.specs.NodeState.{GoesOn, moved_by}
 use Rattle.lc_core.specs.Nodes.{AreNamed}
 use Rattle.lc_core.specs.Numbers.{Numbers}
 use Rattle.lc_core.specs.Places.{get_set_other, get_set_same, same_some}
 use Rattle.lc_core.specs.Running.{FitsAll, FitsTravelling, Onward}
 use Rattle.lc_core.specs.Settled.{arrive_answer}
 use Rattle.lc_core.specs.Slots.{FitsToken}
-use Rattle.lc_core.specs.declared.node.Node.{Node}
+use Rattle.lc_core.specs.declared.node_state.NodeState.{NodeState}
 use Rattle.lc_core.specs.declared.running.Running.{Running}
 use Rattle.lc_core.proofs.Going.{settled_by}
 
@@ -47,8 +47,8 @@ set_back [] k was late again at same = absurd cc
 set_back (x ∷ xs) zero was late again at same = ap (λ y. y ∷ xs) (same ∙ sym (same_some x was at))
 set_back (x ∷ xs) (suc k) was late again at same = ap (λ ys. x ∷ ys) (set_back xs k was late again at same)
 
-module _ {D : Type 0} (a : Ghosts D) (m : Setting) (n : ℕ) (event : Event) (s : State) (x : Numbers) (reply : Reply) (geometry : Geometry) (nodes : List (Node D a)) (travelling : List (Option Token))
-    (h : FitsAll a m geometry nodes travelling s x) (new : Node D a) (goes : GoesOn a m n event s x reply new) where
+module _ {D : Type 0} (a : Ghosts D) (m : Setting) (n : ℕ) (event : Event) (s : State) (x : Numbers) (reply : Reply) (geometry : Geometry) (nodes : List (NodeState D a)) (travelling : List (Option Token))
+    (h : FitsAll a m geometry nodes travelling s x) (new : NodeState D a) (goes : GoesOn a m n event s x reply new) where
   -- a token that leaves comes among them, and one that arrives goes from them
   pub travel_moved : (k : ℕ) (was late : Option Token) → moved_by event reply ≡ k + 1 → slice_get travelling k ≡ Some was
       → ((token : Token) → late ≡ Some token → (goes.after.place (k + 1) ≡ Travelling) × FitsToken m (k + 1) token goes.after goes.next)
@@ -74,7 +74,7 @@ module _ {D : Type 0} (a : Ghosts D) (m : Setting) (n : ℕ) (event : Event) (s 
       travels_not j travels there = (let both : Travelling ≡ At n = sym travels ∙ there in cc)
 
 -- where no token is on its way, none arrives
-pub none_arrives : {D : Type 0} (a : Ghosts D) (m : Setting) (n segment : ℕ) (s : State) (x : Numbers) (geometry : Geometry) (nodes : List (Node D a)) (travelling : List (Option Token))
+pub none_arrives : {D : Type 0} (a : Ghosts D) (m : Setting) (n segment : ℕ) (s : State) (x : Numbers) (geometry : Geometry) (nodes : List (NodeState D a)) (travelling : List (Option Token))
     → FitsAll a m geometry nodes travelling s x → (s.place segment ≡ Travelling → ⊥) → Onward a m (Arrive n segment) s x (Refused OutOfTurn) geometry nodes travelling
 none_arrives a m n segment s x geometry nodes travelling h stays = by_place (s.place segment) refl
   where
@@ -110,7 +110,7 @@ module _ {D : Type 0} (a : Ghosts D) (w : Running D a) (node segment : ℕ) wher
     pub was : slice_get w.travelling.items (segment - 1) ≡ Some found
 
   -- the node and the token that an arrival finds
-  pub record Arriving (old : Node D a) (found : Option Token) (token : Token) : Type 0 where
+  pub record Arriving (old : NodeState D a) (found : Option Token) (token : Token) : Type 0 where
     pub place : IsPlace found
     pub open place use *
     pub at : slice_get w.nodes.items node ≡ Some old
@@ -128,7 +128,7 @@ module _ {D : Type 0} (a : Ghosts D) (w : Running D a) (node segment : ℕ) wher
           was = slice_get_read w.travelling.items w.travelling.len (segment - 1) found w.travelling.ok.0 (omega (arith, its.0, its.1, w.all_places)) read;
         }
 
-    pub arriving : (old : Node D a) (found : Option Token) (token : Token) → old ≡ get_or w.nodes.items node old → found ≡ get_or w.travelling.items (segment - 1) found → found ≡ Some token
+    pub arriving : (old : NodeState D a) (found : Option Token) (token : Token) → old ≡ get_or w.nodes.items node old → found ≡ get_or w.travelling.items (segment - 1) found → found ≡ Some token
         → Arriving old found token
     arriving old found token same read stood =
         let place = place_read found read in
@@ -143,7 +143,7 @@ module _ {D : Type 0} (a : Ghosts D) (w : Running D a) (node segment : ℕ) wher
         }
 
   -- the token travels, and fits
-  pub arriving_travels : (m : Setting) (s : State) (x : Numbers) (old : Node D a) (found : Option Token) (token : Token) → FitsAll a m w.geometry w.nodes.items w.travelling.items s x → Arriving old found token
+  pub arriving_travels : (m : Setting) (s : State) (x : Numbers) (old : NodeState D a) (found : Option Token) (token : Token) → FitsAll a m w.geometry w.nodes.items w.travelling.items s x → Arriving old found token
       → (s.place token.segment ≡ Travelling) × FitsToken m token.segment token s x
   arriving_travels m s x old found token h it =
       let there = h.on_the_way.some (segment - 1) token (it.was ∙ ap (λ o. Some o) it.stood) in

@@ -27,7 +27,7 @@ use Rattle.lc_core.specs.Places.{same_some}
 use Rattle.lc_core.specs.Records.{Spelled, count_of, front_of}
 use Rattle.lc_core.specs.Trimming.{is_done, IsKnown, AreKnown, AllFit, TellsLocks, Counts}
 use Rattle.lc_core.specs.declared.journal.Journal.{Journal}
-use Rattle.lc_core.specs.declared.node.Node.{Node}
+use Rattle.lc_core.specs.declared.node_state.NodeState.{NodeState}
 use Rattle.lc_core.proofs.Published.{kept_at}
 use Rattle.lc_core.proofs.Spans.{leading_le}
 
@@ -130,12 +130,12 @@ published_count m n s x sound =
 
 module _ {D : Type 0} (a : Ghosts D) where
   -- so many of the records that a journal has published, from the first, are applied at all of these nodes
-  abbrev pub AreDone : List (Node D a) → Journal D a → ℕ → Type 0
+  abbrev pub AreDone : List (NodeState D a) → Journal D a → ℕ → Type 0
   AreDone nodes w count =
       (m : Setting) (n : ℕ) (s : State) (x : Numbers) → Sound m.geometry s → FitsJournal a m n w s x → AllFit a m nodes s x
       → (k : ℕ) (r : Record) → k < count → slice_get (published m s x n) k ≡ Some r → is_done m x r ≡ true
 
-  pub all_done : (nodes : List (Node D a)) (w : Journal D a) → AreDone nodes w (w.acked - w.trimmed) → Counts a nodes w (w.acked - w.trimmed)
+  pub all_done : (nodes : List (NodeState D a)) (w : Journal D a) → AreDone nodes w (w.acked - w.trimmed) → Counts a nodes w (w.acked - w.trimmed)
   all_done nodes w done m n s x sound journal slots =
       let count = published_count m n s x sound in
       let same : w.acked - w.trimmed ≡ length (published m s x n) = omega (arith, count, journal.acked_is, journal.trimmed_is) in
@@ -144,7 +144,7 @@ module _ {D : Type 0} (a : Ghosts D) where
       let below : k < w.acked - w.trimmed = omega (arith, within, same) in
       done m n s x sound journal slots k r below at))
 
-  module _ (nodes : List (Node D a)) (w : Journal D a) (number : ℕ) (kept : w.trimmed ≤ number) (below : number < w.acked) (words : List ℕ)
+  module _ (nodes : List (NodeState D a)) (w : Journal D a) (number : ℕ) (kept : w.trimmed ≤ number) (below : number < w.acked) (words : List ℕ)
       (are : (r : Spelled) → slice_get w.records.records (number - w.records.before) ≡ Some r → words ≡ r.words) where
     -- the words are those of the record of the number
     looked_at : (answer : Bool) → TellsLocks a nodes words answer → (m : Setting) (n : ℕ) (s : State) (x : Numbers) → Sound m.geometry s → FitsJournal a m n w s x → AllFit a m nodes s x

@@ -10,14 +10,14 @@ use Rattle.lc_model.specs.declared.reply.Reply.TheVariants.{Trimmed}
 use Rattle.lc_model.proofs.Seats.{update-other}
 use Rattle.lc_core.specs.Beside.{BesideLogs}
 use Rattle.lc_core.specs.Logging.{Trims}
-use Rattle.lc_core.specs.Node.{FitsNode, GoesOn}
+use Rattle.lc_core.specs.NodeState.{FitsNode, GoesOn}
 use Rattle.lc_core.specs.Numbers.{Numbers, published}
 use Rattle.lc_core.specs.Places.{same_some}
 use Rattle.lc_core.specs.Settled.{trim_answer}
 use Rattle.lc_core.specs.Slots.{besides_of}
 use Rattle.lc_core.specs.Trimming.{Counts, is_done}
 use Rattle.lc_core.specs.declared.journal.Journal.{Journal}
-use Rattle.lc_core.specs.declared.node.Node.{Node}
+use Rattle.lc_core.specs.declared.node_state.NodeState.{NodeState}
 use Rattle.lc_core.proofs.Dropping.{still}
 use Rattle.lc_core.proofs.Going.{settled_by}
 use Rattle.lc_core.proofs.Others.{beside_open}
@@ -38,7 +38,7 @@ logs_trimmed m n s x trimmed = record {
 }
 
 -- by as many as every node has applied, from the first
-pub trim_goes : {D : Type 0} (a : Ghosts D) (m : Setting) (n : ℕ) (s : State) (x : Numbers) (count : ℕ) (old : Node D a) (new : Journal D a) → FitsNode a m n old s x
+pub trim_goes : {D : Type 0} (a : Ghosts D) (m : Setting) (n : ℕ) (s : State) (x : Numbers) (count : ℕ) (old : NodeState D a) (new : Journal D a) → FitsNode a m n old s x
     → count ≡ leading (map (is_done m x) (published m s x n)) → Trims a old.journal count new → new.group ≡ old.journal.group → new.round ≡ old.journal.round
     → GoesOn a m n (Trim n) s x (Trimmed count) (record { desk = old.desk; journal = new; known = old.known })
 trim_goes a m n s x count old new h counts trims group round =
@@ -68,12 +68,12 @@ trim_goes a m n s x count old new h counts trims group round =
     }
 
 -- what was counted over these nodes, for the journal of the one at a place
-pub counted_at : {D : Type 0} (a : Ghosts D) (nodes seen : List (Node D a)) (n : ℕ) (node read : Node D a) (count : ℕ) → slice_get nodes n ≡ Some node → n < length nodes → seen ≡ nodes
+pub counted_at : {D : Type 0} (a : Ghosts D) (nodes seen : List (NodeState D a)) (n : ℕ) (node read : NodeState D a) (count : ℕ) → slice_get nodes n ≡ Some node → n < length nodes → seen ≡ nodes
     → read ≡ slice_index_or seen n read → (slice_index_or seen n read).journal.trimmed + count ≤ (slice_index_or seen n read).journal.acked
     → Counts a seen (slice_index_or seen n read).journal count → (node.journal.trimmed + count ≤ node.journal.acked) × Counts a nodes node.journal count
 counted_at a nodes seen n node read count at within all is few counts =
     let it : slice_get nodes n ≡ Some read = slice_get_read nodes (length nodes) n read refl within (is ∙ ap (λ l. slice_index_or l n read) all) in
     let same : slice_index_or seen n read ≡ node = sym is ∙ same_some read node (sym it ∙ at) in (
-      subst (λ (w : Node _ a). w.journal.trimmed + count ≤ w.journal.acked) same few,
-      subst (λ (w : Node _ a). Counts a nodes w.journal count) same (subst (λ (l : List (Node _ a)). Counts a l (slice_index_or seen n read).journal count) all counts),
+      subst (λ (w : NodeState _ a). w.journal.trimmed + count ≤ w.journal.acked) same few,
+      subst (λ (w : NodeState _ a). Counts a nodes w.journal count) same (subst (λ (l : List (NodeState _ a)). Counts a l (slice_index_or seen n read).journal count) all counts),
     )

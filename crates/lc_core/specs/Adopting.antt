@@ -23,10 +23,10 @@ use Rattle.lc_core.specs.declared.up.Up.{Up as UpStore}
 use Rattle.lc_core.specs.Numbers.{Numbers}
 use Rattle.lc_core.specs.Records.{marks_of as closing_marks}
 use Rattle.lc_core.specs.Slots.{segment_to}
-use Rattle.lc_core.specs.declared.node.Node.{Node}
+use Rattle.lc_core.specs.declared.node_state.NodeState.{NodeState}
 use Rattle.lc_core.specs.declared.running.Running.{Running}
 use Rattle.lc_core.specs.Seat.{Free}
-use Rattle.lc_core.specs.declared.slot.Slot.{Slot}
+use Rattle.lc_core.specs.declared.segment_copy.SegmentCopy.{SegmentCopy}
 
 -- the numbers beside the state that it stands for
 abbrev pub numbers_of : Found → Numbers
@@ -59,7 +59,7 @@ pub record IsAdoptedToken (f : Found) (segment : ℕ) (token : Token) : Type 0 w
   pub uncounted : (page : ℕ) → page < f.geometry.pages → (entry_at token.pages page).uncommitted ≡ 0
 
 -- a segment at a node: its bytes up to the number that the node has applied, which no transaction holds; the token where it is
-pub record IsAdoptedSlot (f : Found) (node segment : ℕ) (slot : Slot) : Type 0 where
+pub record IsAdoptedSlot (f : Found) (node segment : ℕ) (slot : SegmentCopy) : Type 0 where
   pub bytes : slot.image.bytes.items ≡ segment_to (machine_setting f) (machine_state f) (machine_disks f) segment (f.applied node segment)
   pub holders : slot.image.holders ≡ Unheld
   pub token : ForSome slot.token.token (λ token. (f.place segment ≡ At node) × IsAdoptedToken f segment token)
@@ -68,10 +68,10 @@ pub record IsAdoptedSlot (f : Found) (node segment : ℕ) (slot : Slot) : Type 0
 
 module _ {D : Type 0} (a : Ghosts D) where
   -- a node of which no thread does anything, with its log at rest
-  pub record IsAdoptedNode (f : Found) (n : ℕ) (node : Node D a) : Type 0 where
+  pub record IsAdoptedNode (f : Found) (n : ℕ) (node : NodeState D a) : Type 0 where
     pub seats : node.desk.seats.items ≡ replicate f.geometry.threads Free
     pub slots_count : length node.desk.here.slots.items ≡ f.geometry.segments
-    pub slots : (k : ℕ) (slot : Slot) → slice_get node.desk.here.slots.items k ≡ Some slot → IsAdoptedSlot f n (k + 1) slot
+    pub slots : (k : ℕ) (slot : SegmentCopy) → slice_get node.desk.here.slots.items k ≡ Some slot → IsAdoptedSlot f n (k + 1) slot
     -- the log has the stable records that no reset dropped
     pub log : Stands a node.journal.log 0 (drop (f.dropped n) (take (f.stable n) (own_records f n))) []
     pub works : is_idle a node.journal.log ≡ true
@@ -91,7 +91,7 @@ module _ {D : Type 0} (a : Ghosts D) where
   pub record IsAdopted (f : Found) (w : Running D a) : Type 0 where
     pub geometry : w.geometry ≡ f.geometry
     pub count : length w.nodes.items ≡ f.geometry.nodes
-    pub each : (n : ℕ) (node : Node D a) → slice_get w.nodes.items n ≡ Some node → IsAdoptedNode f n node
+    pub each : (n : ℕ) (node : NodeState D a) → slice_get w.nodes.items n ≡ Some node → IsAdoptedNode f n node
     pub travelling_count : length w.travelling.items ≡ f.geometry.segments
     pub travelling : (k : ℕ) (token : Token) → slice_get w.travelling.items k ≡ Some (Some token) → (f.place (k + 1) ≡ Travelling) × IsAdoptedToken f (k + 1) token
     pub standing : (k : ℕ) → slice_get w.travelling.items k ≡ Some None → f.place (k + 1) ≡ Travelling → ⊥

@@ -6,10 +6,10 @@ use Rattle.lc_record.specs.declared.geometry.Geometry.{Geometry}
 use Rattle.lc_model.specs.State.{Setting, first_state}
 use Rattle.lc_core.specs.Numbers.{Numbers}
 use Rattle.lc_core.specs.World.{FitsPhase}
-use Rattle.lc_core.specs.declared.phase.Phase.{Phase}
+use Rattle.lc_core.specs.declared.world_phase.WorldPhase.{WorldPhase}
 
 module _ {D : Type 0} (a : Ghosts D) where
-  pub record StartsAnew (g : Geometry) (steps : ℕ) (new : Phase D a) : Type 0 where
+  pub record StartsAnew (g : Geometry) (steps : ℕ) (new : WorldPhase D a) : Type 0 where
     pub content : Content
     pub numbers : ℕ → ℕ
     pub fits : (x : Numbers) → x.disks.numbers ≡ numbers → x.steps ≡ steps

@@ -19,8 +19,8 @@ use Rattle.lc_core.specs.declared.call_fault.CallFault.{CallFault}
 use Rattle.lc_core.specs.declared.call_fault.CallFault.TheVariants.{NoMemory, Refused as IsRefused}
 use Rattle.lc_core.specs.declared.flush_progress.FlushProgress.{FlushProgress}
 use Rattle.lc_core.specs.declared.flush_progress.FlushProgress.TheVariants.{Stepped as HasFlushed, Acked as HasAcked, Nothing as NoneToFlush}
-use Rattle.lc_core.specs.declared.receipt.Receipt.{Receipt}
-use Rattle.lc_core.specs.declared.receipt.Receipt.TheVariants.{Applied as IsApplied, HeldBack as IsHeldBack, Ignored as IsIgnored}
+use Rattle.lc_core.specs.declared.delivery_outcome.DeliveryOutcome.{DeliveryOutcome}
+use Rattle.lc_core.specs.declared.delivery_outcome.DeliveryOutcome.TheVariants.{Applied as IsApplied, HeldBack as IsHeldBack, Ignored as IsIgnored}
 use Rattle.lc_core.specs.declared.placement.Placement.{Placement}
 use Rattle.lc_core.specs.declared.placement.Placement.TheVariants.{Record as HasRecord, Empty as IsEmpty}
 use Rattle.lc_core.specs.declared.reset_progress.ResetProgress.{ResetProgress}
@@ -98,7 +98,7 @@ place_taken (Err (IsRefused refusal)) = Some (Refused refusal)
 place_taken (Err NoMemory) = None
 
 -- what became of the record
-abbrev pub received : Result Receipt CallFault → Option Reply
+abbrev pub received : Result DeliveryOutcome CallFault → Option Reply
 received (Ok (IsApplied number)) = Some (Applied number)
 received (Ok IsHeldBack) = Some HeldBack
 received (Ok IsIgnored) = Some Ignored

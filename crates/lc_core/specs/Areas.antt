@@ -5,14 +5,14 @@ use Rattle.lc_disk.specs.declared.area.Area.{Ghosts}
 use Rattle.lc_recover.specs.Reads.{area_count}
 use Rattle.lc_core.specs.Log.{area_of}
 use Rattle.lc_core.specs.Pages.{areas_of}
-use Rattle.lc_core.specs.declared.node.Node.{Node}
+use Rattle.lc_core.specs.declared.node_state.NodeState.{NodeState}
 use Rattle.lc_core.specs.declared.up.Up.{Up}
 
 module _ {D : Type 0} (a : Ghosts D) where
   -- the areas of a store that is up: those of its nodes' logs, and then those of its segments
   pub record AreOf (up : Up D a) (areas : List D) : Type 0 where
     pub count : length areas ≡ area_count up.running.geometry
-    pub logs : (n : ℕ) (node : Node D a) → slice_get up.running.nodes.items n ≡ Some node → area_of a node.journal.log ≡ slice_get areas n
+    pub logs : (n : ℕ) (node : NodeState D a) → slice_get up.running.nodes.items n ≡ Some node → area_of a node.journal.log ≡ slice_get areas n
     pub segments : areas_of a up.segments.items ≡ drop up.running.geometry.nodes areas
 
   -- what a stop makes of an area: while it is honest it reads as one image of what it was, and nothing of it is dirty

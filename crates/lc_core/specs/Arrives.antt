@@ -13,13 +13,13 @@ use Rattle.lc_model.specs.declared.refusal.Refusal.TheVariants.{Behind as IsBehi
 use Rattle.lc_model.specs.declared.reply.Reply.TheVariants.{Ok as Accepted, Refused}
 use Rattle.lc_tx.specs.declared.holders.Holders.TheVariants.{Free}
 use Rattle.lc_core.specs.declared.desk.Desk.{Desk}
-use Rattle.lc_core.specs.declared.slot.Slot.{Slot}
+use Rattle.lc_core.specs.declared.segment_copy.SegmentCopy.{SegmentCopy}
 use Rattle.lc_core.specs.Desk.{FitsDesk}
 use Rattle.lc_core.specs.Leaves.{HasToken, IsAsBefore}
 
 -- the slot of a segment whose token is on its way: no transaction has it, and where the node has applied all that the token
 -- has seen, its image shows the content
-pub record Waits (m : Setting) (token : Token) (slot : Slot) (s : State) : Type 0 where
+pub record Waits (m : Setting) (token : Token) (slot : SegmentCopy) (s : State) : Type 0 where
   pub travels : s.place token.segment ≡ Travelling
   pub unheld : slot.image.holders ≡ Free
   pub size : length slot.image.bytes.items ≡ segment_len m.geometry
@@ -27,7 +27,7 @@ pub record Waits (m : Setting) (token : Token) (slot : Slot) (s : State) : Type 
 
 -- the token stands in the slot, and the desk fits the machine with it here; or, where the node is behind it, it comes back, and
 -- nothing has changed
-abbrev pub Arrives : Token → Slot → Desk → Result (Unit {0}) (Token × TokenFault) → Desk → Type 0
+abbrev pub Arrives : Token → SegmentCopy → Desk → Result (Unit {0}) (Token × TokenFault) → Desk → Type 0
 Arrives token slot old (Ok done) new =
     (token.seq ≤ slot.parts.applied) × HasToken token.segment slot (Some token) old new
     × ((m : Setting) (node : ℕ) (s : State) → FitsDesk m node old.here old.seats.items s → Waits m token slot s

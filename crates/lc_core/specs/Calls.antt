@@ -10,7 +10,7 @@ use Rattle.lc_model.specs.declared.reply.Reply.{Reply}
 use Rattle.lc_core.specs.Areas.{AreStopped}
 use Rattle.lc_core.specs.CallReplies.{IsCalledBy, calls_area}
 use Rattle.lc_core.specs.Stops.{AreLeftBy, HasAreas}
-use Rattle.lc_core.specs.declared.phase.Phase.{Phase}
+use Rattle.lc_core.specs.declared.world_phase.WorldPhase.{WorldPhase}
 
 module _ {D : Type 0} (a : Ghosts D) where
   -- one of these areas is as one call of its device leaves it, and the others are as they were
@@ -32,11 +32,11 @@ module _ {D : Type 0} (a : Ghosts D) where
   CallsTold g event reply olds news = CallsWhere (calls_area g event reply) g event olds news
 
   -- a store of areas has areas then that were called so
-  abbrev pub CallsArea : Phase D a → Event → Reply → Phase D a → Type 0
+  abbrev pub CallsArea : WorldPhase D a → Event → Reply → WorldPhase D a → Type 0
   CallsArea old event reply new = (g : Geometry) (areas : List D) → HasAreas a old g areas → (later : List D) × HasAreas a new g later × CallsTold g event reply areas later
 
   -- a store has the same areas then
-  abbrev pub KeepsAreas : Phase D a → Phase D a → Type 0
+  abbrev pub KeepsAreas : WorldPhase D a → WorldPhase D a → Type 0
   KeepsAreas old new = (g : Geometry) (areas : List D) → HasAreas a old g areas → HasAreas a new g areas
 
   -- what an event makes of areas: a stop stops each by the choices at its place; any other event calls what its reply tells
@@ -53,6 +53,6 @@ module _ {D : Type 0} (a : Ghosts D) where
   CallsEach left g (event ∷ events) [] olds news = ⊥
 
   -- so it is of the areas of a store, before and after these events
-  abbrev pub CallsAll : (D → List Choice → ℕ → ℕ) → List Event → List Reply → Phase D a → Phase D a → Type 0
+  abbrev pub CallsAll : (D → List Choice → ℕ → ℕ) → List Event → List Reply → WorldPhase D a → WorldPhase D a → Type 0
   CallsAll left events replies old new = (g h : Geometry) (olds news : List D) → HasAreas a old g olds → HasAreas a new h news
       → CallsEach left g events replies olds news

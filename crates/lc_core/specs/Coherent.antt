@@ -1,6 +1,6 @@
 -- What holds of the numbers beside a state: what tokens call clean is on the pages, and resets and page writes under way are so on the disks.
 use Rattle.std.specs.Prelude.{◌≡◌, ℕ, ◌≤◌, nat_lt, List, map, Some, None, is_some, if◌then◌else◌}
-use Rattle.lc_page.specs.declared.entry.Entry.{Entry}
+use Rattle.lc_page.specs.declared.page_entry.PageEntry.{PageEntry}
 use Rattle.lc_page.specs.PageVector.{no_entry}
 use Rattle.lc_record.specs.Marks.{counting}
 use Rattle.lc_record.specs.declared.geometry.Geometry.{Geometry}
@@ -10,7 +10,7 @@ use Rattle.lc_trunc.specs.Clean.{TokenFits}
 use Rattle.lc_core.specs.Numbers.{Numbers, token_number, stable}
 
 -- what a segment's token says of its pages, by the numbers
-abbrev pub entries_of : Geometry → Numbers → ℕ → List Entry
+abbrev pub entries_of : Geometry → Numbers → ℕ → List PageEntry
 entries_of g x segment = map (λ page. record no_entry { touched = x.touched segment page; stable = stable x segment page }) (counting 0 g.pages)
 
 -- a page write is under way just where calls of it are made; the fifth opens its slot, and its number is at most the token's

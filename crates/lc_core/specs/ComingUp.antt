@@ -10,8 +10,8 @@ use Rattle.lc_core.specs.Recovers.{RecoversDown}
 use Rattle.lc_core.specs.Truncating.{StepsTo}
 use Rattle.lc_core.specs.declared.call_fault.CallFault.{CallFault}
 use Rattle.lc_core.specs.declared.call_fault.CallFault.TheVariants.{NoMemory, Refused as IsRefused}
-use Rattle.lc_core.specs.declared.phase.Phase.{Phase}
-use Rattle.lc_core.specs.declared.phase.Phase.TheVariants.{Down, Up, Taken}
+use Rattle.lc_core.specs.declared.world_phase.WorldPhase.{WorldPhase}
+use Rattle.lc_core.specs.declared.world_phase.WorldPhase.TheVariants.{Down, Up, Taken}
 use Rattle.lc_core.specs.declared.world.World.{World}
 
 -- the reply that ends the steps; there is none where memory was wanted
@@ -38,7 +38,7 @@ module _ {D : Type 0} (a : Ghosts D) where
   RecoversIn (suc more) old last new = (steps : ℕ) × (mid : World D a) × RecoversTo old (Stepped steps) mid × RecoversIn more mid last new
 
   -- how many steps a recovery has left at most: as many as where it writes each page
-  abbrev pub steps_left : Phase D a → ℕ
+  abbrev pub steps_left : WorldPhase D a → ℕ
   steps_left (Down r) = all_steps r.geometry (r.geometry.segments * r.geometry.pages) - r.steps
   steps_left (Up up) = 0
   steps_left Taken = 0

@@ -9,7 +9,7 @@ use Rattle.lc_tx.specs.declared.tx.Tx.{Tx}
 use Rattle.lc_range.specs.RangeSet.{IsCanonical}
 use Rattle.lc_core.specs.Seat.{Seat, Reserved, reserved_of}
 use Rattle.lc_core.specs.declared.desk.Desk.{Desk}
-use Rattle.lc_core.specs.declared.slot.Slot.{Slot}
+use Rattle.lc_core.specs.declared.segment_copy.SegmentCopy.{SegmentCopy}
 
 -- some range is of this segment
 abbrev pub names : ℕ → List Range → Bool
@@ -31,11 +31,11 @@ abbrev pub countable_in : ℕ → Option Token → Option Token
 countable_in applied None = None
 countable_in applied (Some token) = countable_if applied token
 
-abbrev pub countable : Slot → Option Token
+abbrev pub countable : SegmentCopy → Option Token
 countable slot = countable_in slot.parts.applied slot.token.token
 
 -- the slot once its token has the next number, which the node has applied
-abbrev pub counting : Token → Slot → Slot
+abbrev pub counting : Token → SegmentCopy → SegmentCopy
 counting token slot = record slot {
   token = record slot.token { token = Some (record token { seq = token.seq + 1 }) };
   parts = counted slot.parts (token.seq + 1);
@@ -51,7 +51,7 @@ pub record TouchesToken (offset len : ℕ) (old new : Token) : Type 0 where
       → entry_at new.pages page ≡ (if is_on offset len page then touched_at (entry_at old.pages page) old.seq else entry_at old.pages page)
 
 -- and the slot, where it stands
-pub record TouchesSlot (offset len : ℕ) (token : Token) (old new : Slot) : Type 0 where
+pub record TouchesSlot (offset len : ℕ) (token : Token) (old new : SegmentCopy) : Type 0 where
   pub after : Token
   pub slot_is : new ≡ record old { token = record old.token { token = Some after } }
   pub touches : TouchesToken offset len token after
@@ -66,7 +66,7 @@ pub record CountsToken (segment : ℕ) (ranges : List Range) (old new : Token) :
       → entry_at new.pages page ≡ (if names_page segment page ranges then touched_at (entry_at old.pages page) (old.seq + 1) else entry_at old.pages page)
 
 -- and the slot, which has applied it
-pub record CountsSlot (segment : ℕ) (ranges : List Range) (token : Token) (old new : Slot) : Type 0 where
+pub record CountsSlot (segment : ℕ) (ranges : List Range) (token : Token) (old new : SegmentCopy) : Type 0 where
   pub same_image : new.image ≡ old.image
   pub after : Token
   pub token_is : new.token ≡ record old.token { token = Some after }
@@ -74,14 +74,14 @@ pub record CountsSlot (segment : ℕ) (ranges : List Range) (token : Token) (old
   pub parts_are : new.parts ≡ counted old.parts (token.seq + 1)
 
 -- a slot of a segment without a range stays, and so does one whose token cannot count
-abbrev pub Counts : ℕ → List Range → Slot → Slot → Type 0
+abbrev pub Counts : ℕ → List Range → SegmentCopy → SegmentCopy → Type 0
 Counts segment ranges old new =
     MatchBool (names segment ranges) (MatchOption (countable old) (new ≡ old) (λ token. CountsSlot segment ranges token old new)) (new ≡ old)
 
 -- each slot, the first of which is of segment 1
-pub record CountsAll (ranges : List Range) (old new : List Slot) : Type 0 where
+pub record CountsAll (ranges : List Range) (old new : List SegmentCopy) : Type 0 where
   pub same_length : length new ≡ length old
-  pub each : (k : ℕ) (slot : Slot) → slice_get old k ≡ Some slot → (after : Slot) × (slice_get new k ≡ Some after) × Counts (k + 1) ranges slot after
+  pub each : (k : ℕ) (slot : SegmentCopy) → slice_get old k ≡ Some slot → (after : SegmentCopy) × (slice_get new k ≡ Some after) × Counts (k + 1) ranges slot after
 
 -- a desk whose thread has no reservation stays; else its record is counted, and its number is answered
 abbrev pub CountsSeat : ℕ → Desk → Option ℕ → Desk → Type 0

@@ -14,9 +14,9 @@ use Rattle.lc_core.specs.Running.{FitsRunning}
 use Rattle.lc_core.specs.Settled.{deliver_answer}
 use Rattle.lc_core.specs.declared.delivering.Delivery.{Delivery}
 use Rattle.lc_core.specs.declared.delivering.Delivery.TheVariants.{Unknown, Known, New, Next}
-use Rattle.lc_core.specs.declared.node.Node.{Node}
+use Rattle.lc_core.specs.declared.node_state.NodeState.{NodeState}
 use Rattle.lc_core.specs.declared.running.Running.{Running}
-use Rattle.lc_core.specs.declared.slot.Slot.{Slot}
+use Rattle.lc_core.specs.declared.segment_copy.SegmentCopy.{SegmentCopy}
 
 -- the sender has published the record under this number, and its part of the segment is neither applied nor kept at the receiver
 pub record HasNewPart (m : Setting) (s : State) (x : Numbers) (sender number segment to : ℕ) (r : Record) : Type 0 where
@@ -36,8 +36,8 @@ pub record CopiesPart (m : Setting) (s : State) (x : Numbers) (sender number seg
 module _ {D : Type 0} (a : Ghosts D) where
   -- the slot of the segment at the node takes a record with this number at once
   pub record IsReady (segment to own : ℕ) (w : Running D a) : Type 0 where
-    pub node : Node D a
-    pub slot : Slot
+    pub node : NodeState D a
+    pub slot : SegmentCopy
     pub at : slice_get w.nodes.items to ≡ Some node
     pub at_segment : slice_get node.desk.here.slots.items (segment - 1) ≡ Some slot
     pub takes : TakesAtOnce own slot

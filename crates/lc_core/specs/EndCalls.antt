@@ -11,7 +11,7 @@ use Rattle.lc_core.specs.Layers.{StepsRunning, StepsUp, TriesRunning, TriesUp}
 use Rattle.lc_core.specs.NodeSteps.{StepsNode}
 use Rattle.lc_core.specs.declared.call_fault.CallFault.{CallFault}
 use Rattle.lc_core.specs.declared.call_fault.CallFault.TheVariants.{NoMemory, Refused as IsRefused}
-use Rattle.lc_core.specs.declared.node.Node.{Node}
+use Rattle.lc_core.specs.declared.node_state.NodeState.{NodeState}
 use Rattle.lc_core.specs.declared.placement.Placement.{Placement}
 use Rattle.lc_core.specs.declared.placement.Placement.TheVariants.{Empty as IsEmpty, Record as HasRecord}
 use Rattle.lc_core.specs.declared.running.Running.{Running}
@@ -51,11 +51,11 @@ module _ {S : Type 0} (Places : S → Result Reply AllocError → S → Type 0) 
 
 module _ {D : Type 0} (a : Ghosts D) where
   -- a node whose log stays
-  pub record PlacesNode (n thread : ℕ) (old : Node D a) (result : Result Reply AllocError) (new : Node D a) : Type 0 where
+  pub record PlacesNode (n thread : ℕ) (old : NodeState D a) (result : Result Reply AllocError) (new : NodeState D a) : Type 0 where
     pub steps : StepsNode a n (Reserve n thread) old result new
     pub log : new.journal.log ≡ old.journal.log
 
-  abbrev pub EndsNode : ℕ → ℕ → Node D a → Result Placement CallFault → Node D a → Type 0
+  abbrev pub EndsNode : ℕ → ℕ → NodeState D a → Result Placement CallFault → NodeState D a → Type 0
   EndsNode n thread = EndsBy (PlacesNode n thread) (λ old reply new. StepsNode a n (Close n thread) old (Ok reply) new)
 
   abbrev pub EndsRunning : ℕ → ℕ → Running D a → Result Placement CallFault → Running D a → Type 0
@@ -65,7 +65,7 @@ module _ {D : Type 0} (a : Ghosts D) where
   EndsUp node thread = EndsBy (λ old. TriesUp a old (Reserve node thread)) (λ old. StepsUp a old (Close node thread))
 
   -- the record that a thread of a node has reserved is closed
-  pub record ClosesAt (n thread place words : ℕ) (old : Node D a) (result : Result Placement CallFault) (new : Node D a) : Type 0 where
+  pub record ClosesAt (n thread place words : ℕ) (old : NodeState D a) (result : Result Placement CallFault) (new : NodeState D a) : Type 0 where
     pub closed : Result (Unit {0}) Refusal
     pub closes : StepsNode a n (Close n thread) old (Ok (done closed)) new
     pub is : result ≡ closed_at closed (HasRecord place words)

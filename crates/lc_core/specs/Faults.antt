@@ -9,9 +9,9 @@ use Rattle.lc_core.specs.FaultReplies.{CallsOneOf, CountsFaults, failures_of, ki
 use Rattle.lc_core.specs.Log.{area_of}
 use Rattle.lc_core.specs.Pages.{areas_of}
 use Rattle.lc_core.specs.declared.log.Log.{Log}
-use Rattle.lc_core.specs.declared.node.Node.{Node}
-use Rattle.lc_core.specs.declared.phase.Phase.{Phase}
-use Rattle.lc_core.specs.declared.phase.Phase.TheVariants.{Down, Up, Taken}
+use Rattle.lc_core.specs.declared.node_state.NodeState.{NodeState}
+use Rattle.lc_core.specs.declared.world_phase.WorldPhase.{WorldPhase}
+use Rattle.lc_core.specs.declared.world_phase.WorldPhase.TheVariants.{Down, Up, Taken}
 use Rattle.lc_core.specs.declared.running.Running.{Running}
 
 -- reply by reply: each that tells of a failure tells of one, and no other failure there is
@@ -27,11 +27,11 @@ IsLogOf event at = ⊥
 
 module _ {D : Type 0} (a : Ghosts D) where
   -- the logs of nodes
-  abbrev pub logs_of : List (Node D a) → List (Log D a)
+  abbrev pub logs_of : List (NodeState D a) → List (Log D a)
   logs_of nodes = map (λ node. node.journal.log) nodes
 
   -- and their areas
-  abbrev pub areas_in : List (Node D a) → List (Option D)
+  abbrev pub areas_in : List (NodeState D a) → List (Option D)
   areas_in nodes = map (area_of a) (logs_of nodes)
 
   -- no node's log has changed
@@ -57,7 +57,7 @@ module _ {D : Type 0} (a : Ghosts D) where
   area_failures areas = map (λ area. Some (a.failures area)) areas
 
   -- those of the logs, and then those of the segments
-  abbrev pub phase_failures : Phase D a → List (Option ℕ)
+  abbrev pub phase_failures : WorldPhase D a → List (Option ℕ)
   phase_failures (Down recovery) = area_failures recovery.areas
   phase_failures (Up up) = log_failures (logs_of up.running.nodes.items) ++ area_failures (areas_of a up.segments.items)
   phase_failures Taken = []
@@ -79,5 +79,5 @@ module _ {D : Type 0} (a : Ghosts D) where
     pub calls : CallsLog event (calls_log event reply) (areas_in old.nodes.items) (areas_in new.nodes.items)
 
   -- and of a store of its areas
-  abbrev pub CountsPhase : Phase D a → Reply → Phase D a → Type 0
+  abbrev pub CountsPhase : WorldPhase D a → Reply → WorldPhase D a → Type 0
   CountsPhase old reply new = CountsFaults reply (phase_failures old) (phase_failures new)

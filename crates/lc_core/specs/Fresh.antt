@@ -12,10 +12,10 @@ use Rattle.lc_token.specs.Standing.{Standing}
 use Rattle.lc_token.specs.declared.token.Token.{Token}
 use Rattle.lc_tx.specs.declared.holders.Holders.TheVariants.{Free as Unheld}
 use Rattle.lc_core.specs.Log.{Stands, area_of, is_idle}
-use Rattle.lc_core.specs.declared.node.Node.{Node}
+use Rattle.lc_core.specs.declared.node_state.NodeState.{NodeState}
 use Rattle.lc_core.specs.declared.running.Running.{Running}
 use Rattle.lc_core.specs.Seat.{Free}
-use Rattle.lc_core.specs.declared.slot.Slot.{Slot}
+use Rattle.lc_core.specs.declared.segment_copy.SegmentCopy.{SegmentCopy}
 
 module _ {D : Type 0} where
   -- what the disk says of a page of a segment
@@ -44,7 +44,7 @@ module _ {D : Type 0} where
   known_first r node segment = if segment % r.geometry.nodes == node then sequence_of r segment else 0
 
   -- a segment at a node: its bytes, which no transaction holds, and no part of it from a peer
-  pub record IsFreshSlot (r : RecoveredStore D) (node segment : ℕ) (slot : Slot) : Type 0 where
+  pub record IsFreshSlot (r : RecoveredStore D) (node segment : ℕ) (slot : SegmentCopy) : Type 0 where
     pub bytes : slot.image.bytes.items ≡ segment_bytes r segment
     pub holders : slot.image.holders ≡ Unheld
     pub token : slot.token ≡ fresh_standing r node segment
@@ -52,10 +52,10 @@ module _ {D : Type 0} where
 
 module _ {D : Type 0} (a : Ghosts D) where
   -- a node of which no thread does anything, with an empty log
-  pub record IsFreshNode (r : RecoveredStore D) (node : ℕ) (new : Node D a) : Type 0 where
+  pub record IsFreshNode (r : RecoveredStore D) (node : ℕ) (new : NodeState D a) : Type 0 where
     pub seats : new.desk.seats.items ≡ replicate r.geometry.threads Free
     pub slots_count : length new.desk.here.slots.items ≡ r.geometry.segments
-    pub slots : (k : ℕ) (slot : Slot) → slice_get new.desk.here.slots.items k ≡ Some slot → IsFreshSlot r node (k + 1) slot
+    pub slots : (k : ℕ) (slot : SegmentCopy) → slice_get new.desk.here.slots.items k ≡ Some slot → IsFreshSlot r node (k + 1) slot
     pub log : Stands a new.journal.log 0 [] []
     pub works : is_idle a new.journal.log ≡ true
     pub area : area_of a new.journal.log ≡ slice_get r.areas node
@@ -72,5 +72,5 @@ module _ {D : Type 0} (a : Ghosts D) where
   pub record IsFresh (r : RecoveredStore D) (w : Running D a) : Type 0 where
     pub geometry : w.geometry ≡ r.geometry
     pub count : length w.nodes.items ≡ r.geometry.nodes
-    pub each : (n : ℕ) (node : Node D a) → slice_get w.nodes.items n ≡ Some node → IsFreshNode r n node
+    pub each : (n : ℕ) (node : NodeState D a) → slice_get w.nodes.items n ≡ Some node → IsFreshNode r n node
     pub travelling : w.travelling.items ≡ replicate r.geometry.segments None

@@ -10,7 +10,7 @@ use Rattle.lc_recover.specs.Reads.{AreHonest, AreImages, HaveLengths}
 use Rattle.lc_recover.specs.ReadsAs.{ReadsAs}
 use Rattle.lc_model.specs.History.{Cut, KeepsOrder, front, kept, rest, transactions, value}
 use Rattle.lc_model.specs.Machine.{Run}
-use Rattle.lc_model.specs.Merge.{MergesTo, Store}
+use Rattle.lc_model.specs.Merge.{MergesTo, StoreText}
 use Rattle.lc_model.specs.Merging.{counted_all}
 use Rattle.lc_model.specs.Refusals.{is_up}
 use Rattle.lc_model.specs.State.{Phase as Condition, Up as IsUpNow, DownAt, Setting, State, first_state}
@@ -44,7 +44,7 @@ pub record IsSerial (m : Setting) (s : State) (cut : Cut) : Type 0 where
 
 -- these images read as a store, and it merges, without a refusal, to this result
 abbrev pub MergeTo : Geometry → List (List ℕ) → Content → (ℕ → ℕ) → Type 0
-MergeTo g images content numbers = (store : Store) × ReadsAs g images store × MergesTo store content numbers
+MergeTo g images content numbers = (store : StoreText) × ReadsAs g images store × MergesTo store content numbers
 
 -- these merge to the value of such a prefix, with the numbers of its transactions
 pub record IsPrefix (m : Setting) (s : State) (numbers : ℕ → ℕ) (images : List (List ℕ)) : Type 0 where

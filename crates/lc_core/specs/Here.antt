@@ -8,7 +8,7 @@ use Rattle.lc_token.specs.Backlog.{Backlog}
 use Rattle.lc_token.specs.Standing.{Standing}
 use Rattle.lc_tx.specs.declared.image.Image.{Image as Picture}
 use Rattle.lc_tx.specs.declared.images.Images.{Ghosts}
-use Rattle.lc_core.specs.declared.slot.Slot.{Slot}
+use Rattle.lc_core.specs.declared.segment_copy.SegmentCopy.{SegmentCopy}
 use Rattle.lc_core.specs.declared.here.Here.{Here}
 use Rattle.lc_core.specs.Places.{same_some, get_set_other, get_set_same, same_map_set}
 
@@ -16,24 +16,24 @@ abbrev pub number_in : Option Token → Option ℕ
 number_in None = None
 number_in (Some token) = Some token.seq
 
-abbrev pub number_at : Option Slot → Option ℕ
+abbrev pub number_at : Option SegmentCopy → Option ℕ
 number_at None = None
 number_at (Some slot) = number_in slot.token.token
 
-abbrev pub image_at : Picture → Option Slot → Picture
+abbrev pub image_at : Picture → Option SegmentCopy → Picture
 image_at spare None = spare
 image_at spare (Some slot) = slot.image
 
 -- there is no segment 0
-abbrev pub number_of : List Slot → ℕ → Option ℕ
+abbrev pub number_of : List SegmentCopy → ℕ → Option ℕ
 number_of slots zero = None
 number_of slots (suc place) = number_at (slice_get slots place)
 
-abbrev pub image_of : Picture → List Slot → ℕ → Picture
+abbrev pub image_of : Picture → List SegmentCopy → ℕ → Picture
 image_of spare slots zero = spare
 image_of spare slots (suc place) = image_at spare (slice_get slots place)
 
-abbrev pub with_picture : Option Slot → Picture → (Slot → Here) → Here → Here
+abbrev pub with_picture : Option SegmentCopy → Picture → (SegmentCopy → Here) → Here → Here
 with_picture None image place here = here
 with_picture (Some slot) image place here = place (record slot { image = image })
 
@@ -46,7 +46,7 @@ abbrev pub hidden : Option ℕ → Picture → Option Picture
 hidden None image = Some image
 hidden (Some number) image = None
 
-abbrev pub beside : Slot → Standing × Backlog × Option Picture
+abbrev pub beside : SegmentCopy → Standing × Backlog × Option Picture
 beside slot = (slot.token, slot.parts, hidden (number_in slot.token.token) slot.image)
 
 abbrev pub the_images : Ghosts Here
@@ -59,25 +59,25 @@ the_images = record {
 
 -- The laws
 
-here_at : (slots : List Slot) (place : ℕ) → IsSome (number_of slots (suc place)) → (slot : Slot) × (slice_get slots place ≡ Some slot) × IsSome (number_in slot.token.token)
-here_at slots place is = elim (slice_get slots place) as (λ (o : Option Slot). slice_get slots place ≡ o → IsSome (number_at o) → (slot : Slot) × (slice_get slots place ≡ Some slot) × IsSome (number_in slot.token.token)) [
+here_at : (slots : List SegmentCopy) (place : ℕ) → IsSome (number_of slots (suc place)) → (slot : SegmentCopy) × (slice_get slots place ≡ Some slot) × IsSome (number_in slot.token.token)
+here_at slots place is = elim (slice_get slots place) as (λ (o : Option SegmentCopy). slice_get slots place ≡ o → IsSome (number_at o) → (slot : SegmentCopy) × (slice_get slots place ≡ Some slot) × IsSome (number_in slot.token.token)) [
   | None ↦ λ e h. absurd cc
   | Some slot ↦ λ e h. (slot, e, h)
 ] refl is
 
 -- what a change of a slot's image makes
-set_is : (here : Here) (place : ℕ) (slot : Slot) (image : Picture) → slice_get here.slots.items place ≡ Some slot
+set_is : (here : Here) (place : ℕ) (slot : SegmentCopy) (image : Picture) → slice_get here.slots.items place ≡ Some slot
     → with_image here (suc place) image ≡ record here { slots = with_item here.slots place (record slot { image = image }) }
-set_is here place slot image is = ap (λ (o : Option Slot). with_picture o image (λ s. record here { slots = with_item here.slots place s }) here) is
+set_is here place slot image is = ap (λ (o : Option SegmentCopy). with_picture o image (λ s. record here { slots = with_item here.slots place s }) here) is
 
 hidden_same : (number : Option ℕ) (image other : Picture) → IsSome number → hidden number image ≡ hidden number other
 hidden_same None image other some = absurd cc
 hidden_same (Some n) image other some = refl
 
-number_set : (slots : List Slot) (k j : ℕ) (slot new : Slot) → slice_get slots k ≡ Some slot → new.token ≡ slot.token
+number_set : (slots : List SegmentCopy) (k j : ℕ) (slot new : SegmentCopy) → slice_get slots k ≡ Some slot → new.token ≡ slot.token
     → number_at (slice_get (slice_set slots k new) j) ≡ number_at (slice_get slots j)
 number_set [] k j slot new is same = refl
-number_set (z ∷ slots) zero zero slot new is same = ap (λ (p : Standing). number_in p.token) (same ∙ ap (λ (x : Slot). x.token) (sym (same_some z slot is)))
+number_set (z ∷ slots) zero zero slot new is same = ap (λ (p : Standing). number_in p.token) (same ∙ ap (λ (x : SegmentCopy). x.token) (sym (same_some z slot is)))
 number_set (z ∷ slots) zero (suc j) slot new is same = refl
 number_set (z ∷ slots) (suc k) zero slot new is same = refl
 number_set (z ∷ slots) (suc k) (suc j) slot new is same = number_set slots k j slot new is same
@@ -124,12 +124,12 @@ pub beside_chained : (s t u : Here) → the_images.IsSameBeside s t → the_imag
 beside_chained s t u one two = (two.0 ∙ one.0, two.1 ∙ one.1)
 
 -- what is lent of the image in this place, and what the write of it leaves
-abbrev pub Lent : Here → ℕ → Slot → ℕ → Type 0
+abbrev pub Lent : Here → ℕ → SegmentCopy → ℕ → Type 0
 Lent s segment slot place =
     ((w : Picture) → record { slots = with_item s.slots place (record { image = w; token = slot.token; parts = slot.parts }); spare = s.spare } ≡ with_image s segment w)
     × (slot.image ≡ the_images.image_of s segment)
 
-lent_in : (s : Here) (k : ℕ) (slot : Slot) → IsSome (the_images.number_of s (suc k)) → slot ≡ slice_index_or s.slots.items k slot → Lent s (suc k) slot k
+lent_in : (s : Here) (k : ℕ) (slot : SegmentCopy) → IsSome (the_images.number_of s (suc k)) → slot ≡ slice_index_or s.slots.items k slot → Lent s (suc k) slot k
 lent_in s k slot here is =
     let at = here_at s.slots.items k here in
     let same : slot ≡ at.0 = is ∙ get_or_from_slice_get s.slots.items k at.0 slot at.1 in
@@ -138,7 +138,7 @@ lent_in s k slot here is =
       sym (ap (image_at s.spare) got),
     )
 
-pub lent : (s : Here) (segment : ℕ) (slot : Slot) → IsSome (the_images.number_of s segment) → slot ≡ slice_index_or s.slots.items (segment - 1) slot → Lent s segment slot (segment - 1)
+pub lent : (s : Here) (segment : ℕ) (slot : SegmentCopy) → IsSome (the_images.number_of s segment) → slot ≡ slice_index_or s.slots.items (segment - 1) slot → Lent s segment slot (segment - 1)
 lent s zero slot here is = absurd cc
 lent s (suc k) slot here is =
     let e : suc k - 1 ≡ k = omega arith in

@@ -11,7 +11,7 @@ use Rattle.lc_model.specs.declared.refusal.Refusal.TheVariants.{DeviceFault}
 use Rattle.lc_model.specs.declared.reply.Reply.{Reply}
 use Rattle.lc_model.specs.declared.reply.Reply.TheVariants.{Stepped, Acked, Refused}
 use Rattle.lc_core.specs.Numbers.{Numbers}
-use Rattle.lc_core.specs.Records.{Kept, marks_of}
+use Rattle.lc_core.specs.Records.{KeptRecords, marks_of}
 use Rattle.lc_core.specs.declared.log.Log.{Log}
 use Rattle.lc_core.specs.declared.log.Log.TheVariants.{Idle, Written, Synced, Opened, Sealed, Closing, Emptied, Failed, Torn, Taken}
 use Rattle.lc_core.specs.Log.{Stands, HasReset, is_failed}
@@ -43,7 +43,7 @@ module _ {D : Type 0} (a : Ghosts D) where
 
   -- the words that are kept are the node's records after those that were dropped; of these the log has what is
   -- acknowledged, and the group under way is what a flush took after that
-  pub record FitsLog (m : Setting) (node : ℕ) (log : Log D a) (kept : Kept) (dropped trimmed taken acked : ℕ) (s : State) (x : Numbers) : Type 0 where
+  pub record FitsLog (m : Setting) (node : ℕ) (log : Log D a) (kept : KeptRecords) (dropped trimmed taken acked : ℕ) (s : State) (x : Numbers) : Type 0 where
     pub words : map (λ r. r.words) kept.records ≡ map spelling (drop kept.before (records_of m s x.disks node))
     pub marks : marks_of kept.records ≡ drop kept.before (map (λ e. e.closed) (entries_of node s.history))
     pub all_closed : kept.before ≤ front node s.history

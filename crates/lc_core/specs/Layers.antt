@@ -11,7 +11,7 @@ use Rattle.lc_core.specs.MayReply.{may_reply}
 use Rattle.lc_core.specs.Running.{StillFitsAll}
 use Rattle.lc_core.specs.Stepping.{AsksMemory, FollowsStep}
 use Rattle.lc_core.specs.World.{FollowsUp, StillFitsUp}
-use Rattle.lc_core.specs.declared.phase.Phase.TheVariants.{Up}
+use Rattle.lc_core.specs.declared.world_phase.WorldPhase.TheVariants.{Up}
 use Rattle.lc_core.specs.declared.running.Running.{Running}
 use Rattle.lc_core.specs.declared.up.Up.{Up as UpStore}
 

@@ -12,7 +12,7 @@ use Rattle.lc_model.specs.declared.event.Event.TheVariants.{Leave}
 use Rattle.lc_model.specs.declared.reply.Reply.TheVariants.{Ok as Accepted, Refused}
 use Rattle.lc_tx.specs.declared.holders.Holders.TheVariants.{Free}
 use Rattle.lc_core.specs.declared.desk.Desk.{Desk}
-use Rattle.lc_core.specs.declared.slot.Slot.{Slot}
+use Rattle.lc_core.specs.declared.segment_copy.SegmentCopy.{SegmentCopy}
 use Rattle.lc_core.specs.Desk.{FitsDesk}
 use Rattle.lc_core.specs.FollowsDesk.{StillFits}
 use Rattle.lc_core.specs.Numbers.{Numbers}
@@ -20,11 +20,11 @@ use Rattle.lc_core.specs.Settled.{is_writing, leave_answer, open_answer}
 use Rattle.lc_core.specs.TokenRefused.{token_refusal}
 
 -- a slot with this in its token's place
-abbrev pub with_token : Slot → Option Token → Slot
+abbrev pub with_token : SegmentCopy → Option Token → SegmentCopy
 with_token slot token = record slot { token = record slot.token { token = token } }
 
 -- nothing has changed but what stands in the place of this slot's token
-pub record HasToken (segment : ℕ) (slot : Slot) (token : Option Token) (old new : Desk) : Type 0 where
+pub record HasToken (segment : ℕ) (slot : SegmentCopy) (token : Option Token) (old new : Desk) : Type 0 where
   pub at : slice_get old.here.slots.items (segment - 1) ≡ Some slot
   pub here : new.here ≡ record old.here { slots = with_item old.here.slots (segment - 1) (with_token slot token) }
   pub seats : new.seats ≡ old.seats
@@ -38,14 +38,14 @@ pub record IsAsBefore (old new : Desk) : Type 0 where
 
 -- the token stands in the slot, no transaction has the segment, no page of it is being written, and all that was reserved is
 -- acknowledged
-abbrev pub MayLeave : Bool → ℕ → ℕ → Slot → Type 0
+abbrev pub MayLeave : Bool → ℕ → ℕ → SegmentCopy → Type 0
 MayLeave writing count stable slot = IsSome slot.token.token × (slot.image.holders ≡ Free) × (writing ≡ false) × (count ≤ stable)
 
 -- the token that stood in the slot is away, and the desk fits the machine with it on its way; or the machine may refuse with
 -- the refusal of the same name. Either answer is the one that is settled
 abbrev pub Leaves : ℕ → Bool → ℕ → ℕ → Desk → Result Token TokenFault → Desk → Type 0
 Leaves segment writing count stable old (Ok token) new =
-    ((slot : Slot) × (slot.token.token ≡ Some token) × HasToken segment slot None old new)
+    ((slot : SegmentCopy) × (slot.token.token ≡ Some token) × HasToken segment slot None old new)
     × ((m : Setting) (node : ℕ) (s : State) → Sound m.geometry s → segment ≤ m.geometry.segments
     → FitsDesk m node old.here old.seats.items s → count ≡ reserved node s.history → stable ≡ s.ack node
     → Row m s (Leave node segment) Accepted (placed s segment Travelling) × FitsDesk m node new.here new.seats.items (placed s segment Travelling)

@@ -31,7 +31,7 @@ pub mod Leaves
 pub mod Arrives
 pub mod Prepares
 pub mod Logging
-pub mod Node
+pub mod NodeState
 pub mod Nodes
 pub mod Running
 pub mod Refuses

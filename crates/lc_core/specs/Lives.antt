@@ -7,7 +7,7 @@ use Rattle.lc_page.specs.declared.page_text.PageText.{PageText}
 use Rattle.lc_record.specs.Content.{Content}
 use Rattle.lc_record.specs.declared.geometry.Geometry.{Geometry}
 use Rattle.lc_model.specs.Machine.{Step}
-use Rattle.lc_model.specs.Merge.{MergesTo, Page, Store}
+use Rattle.lc_model.specs.Merge.{MergesTo, Page, StoreText}
 use Rattle.lc_model.specs.Recovered.{AreRenewed, IsReadable}
 use Rattle.lc_model.specs.State.{Setting, State, Up as IsUpNow, fresh}
 use Rattle.lc_model.specs.declared.event.Event.{Event}
@@ -23,8 +23,8 @@ use Rattle.lc_core.specs.Recovers.{RecoversDown, RefusesAtOnce}
 use Rattle.lc_core.specs.Showing.{image_of, page_of}
 use Rattle.lc_core.specs.Stops.{StopsAll}
 use Rattle.lc_core.specs.World.{Begins, FitsUp, FollowsAnyhow}
-use Rattle.lc_core.specs.declared.phase.Phase.{Phase}
-use Rattle.lc_core.specs.declared.phase.Phase.TheVariants.{Down, Up, Taken}
+use Rattle.lc_core.specs.declared.world_phase.WorldPhase.{WorldPhase}
+use Rattle.lc_core.specs.declared.world_phase.WorldPhase.TheVariants.{Down, Up, Taken}
 
 -- a store that is up, beside the machine
 pub record Life : Type 0 where
@@ -34,7 +34,7 @@ pub record Life : Type 0 where
 
 -- it has just come up, with the content of a store that merges to it; its pages are those of that store
 pub record IsBorn (g : Geometry) (life : Life) : Type 0 where
-  pub store : Store
+  pub store : StoreText
   pub content : Content
   pub counted : ℕ → ℕ
   pub pages : ℕ → ℕ → Page
@@ -80,7 +80,7 @@ Lives g at (event ∷ events) [] after = ⊥
 
 module _ {D : Type 0} (a : Ghosts D) where
   -- the store is down, or up beside this
-  abbrev pub FitsLife : Geometry → Option Life → Phase D a → Type 0
+  abbrev pub FitsLife : Geometry → Option Life → WorldPhase D a → Type 0
   FitsLife g None (Down r) = r.geometry ≡ g
   FitsLife g (Some life) (Up up) = FitsUp a life.setting up life.state life.numbers × (life.setting.geometry ≡ g)
   FitsLife g None (Up up) = ⊥
@@ -88,24 +88,24 @@ module _ {D : Type 0} (a : Ghosts D) where
   FitsLife g at Taken = ⊥
 
   -- it has just come up, beside a life that is born
-  abbrev pub IsNewborn : Phase D a → Type 0
+  abbrev pub IsNewborn : WorldPhase D a → Type 0
   IsNewborn phase = (life : Life) × IsBorn life.setting.geometry life × FitsLife life.setting.geometry (Some life) phase
 
   -- whatever it stood beside, it still stands beside
-  abbrev pub StillLives : Phase D a → Phase D a → Type 0
+  abbrev pub StillLives : WorldPhase D a → WorldPhase D a → Type 0
   StillLives old new = (g : Geometry) (at : Option Life) → FitsLife g at old → FitsLife g at new
 
   -- a page that it shows while it is up is the machine's
-  abbrev pub ShowsLife : Phase D a → ℕ → ℕ → ℕ → List ℕ → Type 0
+  abbrev pub ShowsLife : WorldPhase D a → ℕ → ℕ → ℕ → List ℕ → Type 0
   ShowsLife phase node segment page bytes =
       (g : Geometry) (life : Life) → FitsLife g (Some life) phase → bytes ≡ page_of (image_of life.setting life.state life.numbers node segment) page
 
   -- over a list of events
-  abbrev pub FollowsLives : Phase D a → List Event → List Reply → Phase D a → Type 0
+  abbrev pub FollowsLives : WorldPhase D a → List Event → List Reply → WorldPhase D a → Type 0
   FollowsLives old events replies new = (g : Geometry) (at : Option Life) → FitsLife g at old → (after : Option Life) × Lives g at events replies after × FitsLife g after new
 
   -- what an event that is no stop does, whatever the areas are
-  pub record Anyhow (old : Phase D a) (event : Event) (reply : Reply) (new : Phase D a) : Type 0 where
+  pub record Anyhow (old : WorldPhase D a) (event : Event) (reply : Reply) (new : WorldPhase D a) : Type 0 where
     -- one that is up follows the machine
     pub goes : FollowsAnyhow a old event reply new
     -- what comes up is a store of what was read
@@ -114,7 +114,7 @@ module _ {D : Type 0} (a : Ghosts D) where
     pub recovers : event ≡ RecoverStep → RecoversDown a old reply new
 
   -- any event
-  pub record Told (old : Phase D a) (event : Event) (reply : Reply) (new : Phase D a) : Type 0 where
+  pub record Told (old : WorldPhase D a) (event : Event) (reply : Reply) (new : WorldPhase D a) : Type 0 where
     pub anyhow : ((choices : List (List Choice)) → event ≡ Stop choices → ⊥) → Anyhow old event reply new
     pub at_once : RefusesAtOnce a old event reply new
     pub stops : (choices : List (List Choice)) → event ≡ Stop choices → (reply ≡ HasStopped) × StopsAll a old new

@@ -15,9 +15,9 @@ use Rattle.lc_core.specs.Pages.{areas_of}
 use Rattle.lc_core.specs.World.{FitsPhase}
 use Rattle.lc_core.specs.declared.journal.Journal.{Journal}
 use Rattle.lc_core.specs.declared.log.Log.{Log}
-use Rattle.lc_core.specs.declared.node.Node.{Node}
-use Rattle.lc_core.specs.declared.phase.Phase.{Phase}
-use Rattle.lc_core.specs.declared.phase.Phase.TheVariants.{Down, Up, Taken}
+use Rattle.lc_core.specs.declared.node_state.NodeState.{NodeState}
+use Rattle.lc_core.specs.declared.world_phase.WorldPhase.{WorldPhase}
+use Rattle.lc_core.specs.declared.world_phase.WorldPhase.TheVariants.{Down, Up, Taken}
 use Rattle.lc_core.specs.declared.running.Running.{Running}
 use Rattle.lc_core.specs.declared.show_fault.ShowFault.{ShowFault}
 use Rattle.lc_core.specs.declared.show_fault.ShowFault.TheVariants.{Unknown, DeviceFault, NoMemory}
@@ -85,8 +85,8 @@ module _ {D : Type 0} (a : Ghosts D) where
     pub round : new.round ≡ old.round
 
   -- one of the nodes is as before, and so are the others
-  pub record IsNodeKept (n : ℕ) (node : Node D a) (old new : Running D a) : Type 0 where
-    pub now : Node D a
+  pub record IsNodeKept (n : ℕ) (node : NodeState D a) (old new : Running D a) : Type 0 where
+    pub now : NodeState D a
     pub geometry : new.geometry ≡ old.geometry
     pub nodes : new.nodes.items ≡ slice_set old.nodes.items n now
     pub travelling : new.travelling ≡ old.travelling
@@ -96,29 +96,29 @@ module _ {D : Type 0} (a : Ghosts D) where
     pub keeps : StandsOn node.journal.log now.journal.log
 
   -- and the area of its log was read
-  pub record IsNodeRead (n : ℕ) (node : Node D a) (area : D) (old new : Running D a) (failed : Bool) : Type 0 where
+  pub record IsNodeRead (n : ℕ) (node : NodeState D a) (area : D) (old new : Running D a) (failed : Bool) : Type 0 where
     pub kept : IsNodeKept n node old new
     pub next : D
     pub there : area_of a kept.now.journal.log ≡ Some next
     pub read : IsRead area next failed
 
   -- the area of the log of one of the nodes
-  abbrev pub log_in : List (Node D a) → ℕ → Option D
-  log_in nodes node = option_and_then (λ (its : Node D a). area_of a its.journal.log) (slice_get nodes node)
+  abbrev pub log_in : List (NodeState D a) → ℕ → Option D
+  log_in nodes node = option_and_then (λ (its : NodeState D a). area_of a its.journal.log) (slice_get nodes node)
 
-  abbrev pub log_area : Phase D a → ℕ → Option D
+  abbrev pub log_area : WorldPhase D a → ℕ → Option D
   log_area (Down recovery) node = if nat_lt node recovery.geometry.nodes then slice_get recovery.areas node else None
   log_area (Up up) node = log_in up.running.nodes.items node
   log_area Taken node = None
 
   -- the areas of the segments
-  abbrev pub segment_areas : Phase D a → List D
+  abbrev pub segment_areas : WorldPhase D a → List D
   segment_areas (Down recovery) = drop recovery.geometry.nodes recovery.areas
   segment_areas (Up up) = areas_of a up.segments.items
   segment_areas Taken = []
 
   -- no area has changed but that of a node's log, and not the geometry; whatever the store fitted, it still fits, and it lives on
-  pub record IsSameBut (node : ℕ) (old new : Phase D a) : Type 0 where
+  pub record IsSameBut (node : ℕ) (old new : WorldPhase D a) : Type 0 where
     pub others : (other : ℕ) → (other ≡ node → ⊥) → log_area new other ≡ log_area old other
     pub segments : segment_areas new ≡ segment_areas old
     pub geometry : phase_geometry a new ≡ phase_geometry a old
@@ -126,14 +126,14 @@ module _ {D : Type 0} (a : Ghosts D) where
     pub lives : StillLives a old new
 
   -- the area of a node's log was read
-  pub record ReadsLog (node : ℕ) (area : D) (old new : Phase D a) (failed : Bool) : Type 0 where
+  pub record ReadsLog (node : ℕ) (area : D) (old new : WorldPhase D a) (failed : Bool) : Type 0 where
     pub next : D
     pub there : log_area new node ≡ Some next
     pub read : IsRead area next failed
     pub same : IsSameBut node old new
 
   -- there is none to be read
-  pub record ReadsNone (node : ℕ) (old new : Phase D a) : Type 0 where
+  pub record ReadsNone (node : ℕ) (old new : WorldPhase D a) : Type 0 where
     pub there : log_area new node ≡ None
     pub same : IsSameBut node old new
 
@@ -142,6 +142,6 @@ module _ {D : Type 0} (a : Ghosts D) where
   AreWordsOf area words = a.honest area ≡ true → (records : List Record) → IsLogText (words_of (a.now area)) records → words ≡ joined records
 
   -- and of the records that the machine's node has logged, while it is up
-  abbrev pub ShowRecords : Phase D a → ℕ → List ℕ → Type 0
+  abbrev pub ShowRecords : WorldPhase D a → ℕ → List ℕ → Type 0
   ShowRecords phase node words =
       (m : Setting) (s : State) (x : Numbers) → FitsPhase a m phase s x → s.phase ≡ IsUp → AreLogged m s x node words

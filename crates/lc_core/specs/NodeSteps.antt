@@ -13,10 +13,10 @@ use Rattle.lc_core.specs.FaultReplies.{TellsFault}
 use Rattle.lc_core.specs.Growing.{MayReadSome, MaySetMore}
 use Rattle.lc_core.specs.Log.{is_sealed}
 use Rattle.lc_core.specs.MayReply.{may_answer}
-use Rattle.lc_core.specs.Node.{FitsNode, GoesOn, HasSameRoom, StillFitsNode, WantsPlace}
+use Rattle.lc_core.specs.NodeState.{FitsNode, GoesOn, HasSameRoom, StillFitsNode, WantsPlace}
 use Rattle.lc_core.specs.Numbers.{Numbers}
 use Rattle.lc_core.specs.Stepping.{is_plain}
-use Rattle.lc_core.specs.declared.node.Node.{Node}
+use Rattle.lc_core.specs.declared.node_state.NodeState.{NodeState}
 
 -- one node does it alone, and looks at no other
 abbrev pub is_own : Event → Bool
@@ -41,20 +41,20 @@ IsOf n threads event = ⊥
 
 module _ {D : Type 0} (a : Ghosts D) where
   -- what it may want memory for
-  abbrev pub WantsOf : ℕ → Event → Node D a → Type 0
+  abbrev pub WantsOf : ℕ → Event → NodeState D a → Type 0
   WantsOf n (SetRange node thread segment offset len) old = MaySetMore thread segment offset len old.desk
   WantsOf n (Read node thread segment offset len) old = MayReadSome thread segment offset len old.desk
   WantsOf n (Reserve node thread) old = WantsPlace a n thread (is_sealed a old.journal.log) old
   WantsOf n event old = ⊥
 
   -- where its log is sealed just while a reset is under way
-  abbrev pub FollowsSealed : ℕ → Event → Node D a → Reply → Node D a → Type 0
+  abbrev pub FollowsSealed : ℕ → Event → NodeState D a → Reply → NodeState D a → Type 0
   FollowsSealed n event old reply new =
       (m : Setting) (s : State) (x : Numbers) → Sound m.geometry s → common_refusal m.geometry s event ≡ None → FitsNode a m n old s x
       → is_sealed a old.journal.log ≡ nat_lt 0 (x.reset n) → GoesOn a m n event s x reply new
 
   -- where memory is wanted nothing has changed
-  pub record StepsNode (n : ℕ) (event : Event) (old : Node D a) (result : Result Reply AllocError) (new : Node D a) : Type 0 where
+  pub record StepsNode (n : ℕ) (event : Event) (old : NodeState D a) (result : Result Reply AllocError) (new : NodeState D a) : Type 0 where
     pub follows : IfOk result (λ reply. FollowsSealed n event old reply new)
     pub memory : OnErr result (WantsOf n event old)
     pub err : OnErr result (StillFitsNode a old new)

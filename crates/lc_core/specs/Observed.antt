@@ -7,8 +7,8 @@ use Rattle.lc_model.specs.declared.refusal.Refusal.{Refusal}
 use Rattle.lc_model.specs.declared.refusal.Refusal.TheVariants.{Down as IsDown, Unknown}
 use Rattle.lc_core.specs.Showing.{LendsPage}
 use Rattle.lc_core.specs.Stops.{HasAreas}
-use Rattle.lc_core.specs.declared.phase.Phase.{Phase}
-use Rattle.lc_core.specs.declared.phase.Phase.TheVariants.{Down, Up, Taken}
+use Rattle.lc_core.specs.declared.world_phase.WorldPhase.{WorldPhase}
+use Rattle.lc_core.specs.declared.world_phase.WorldPhase.TheVariants.{Down, Up, Taken}
 use Rattle.lc_core.specs.declared.world.World.{World}
 
 -- what a store shows: whether it is up (`is_up`), the areas that it gives back, of which geometry (`into_areas`), and the
@@ -34,7 +34,7 @@ module _ {D : Type 0} where
   RefusesAt seen node segment page refusal = ⊥
 
 module _ {D : Type 0} (a : Ghosts D) where
-  abbrev pub stands_up : Phase D a → Bool
+  abbrev pub stands_up : WorldPhase D a → Bool
   stands_up (Down recovery) = false
   stands_up (Up up) = true
   stands_up Taken = false

@@ -6,11 +6,11 @@ use Rattle.lc_model.specs.Sound.{Sound}
 use Rattle.lc_model.specs.State.{At, Setting, State}
 use Rattle.lc_model.specs.declared.event.Event.TheVariants.{PageStep}
 use Rattle.lc_model.specs.declared.reply.Reply.{Reply}
-use Rattle.lc_core.specs.Node.{FitsNode, GoesOn}
+use Rattle.lc_core.specs.NodeState.{FitsNode, GoesOn}
 use Rattle.lc_core.specs.Numbers.{Numbers}
 use Rattle.lc_core.specs.Pages.{FitsArea}
 use Rattle.lc_core.specs.Running.{FitsRunning, Onward}
-use Rattle.lc_core.specs.declared.node.Node.{Node}
+use Rattle.lc_core.specs.declared.node_state.NodeState.{NodeState}
 use Rattle.lc_core.specs.declared.page_state.PageState.TheVariants.{Failed}
 use Rattle.lc_core.specs.declared.pages.Pages.{Pages}
 use Rattle.lc_core.specs.declared.running.Running.{Running}
@@ -25,7 +25,7 @@ module _ {D : Type 0} (a : Ghosts D) where
   HaltAll s segments = (k : ℕ) (pages : Pages D a) → slice_get segments k ≡ Some pages → HaltsFailed s (k + 1) pages
 
   -- whatever sound state and numbers the node and the area fit where nothing refuses the event at once
-  abbrev pub FollowsPage : ℕ → ℕ → Node D a → Pages D a → Reply → Node D a → Pages D a → Type 0
+  abbrev pub FollowsPage : ℕ → ℕ → NodeState D a → Pages D a → Reply → NodeState D a → Pages D a → Type 0
   FollowsPage segment page old olds reply new news =
       (m : Setting) (n : ℕ) (s : State) (x : Numbers) → Sound m.geometry s → common_refusal m.geometry s (PageStep n segment page) ≡ None → FitsNode a m n old s x
       → FitsArea a m.geometry segment olds x → HaltsFailed s segment olds

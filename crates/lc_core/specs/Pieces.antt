@@ -13,10 +13,10 @@ use Rattle.lc_core.specs.Records.{all_words, front_of, span_of}
 use Rattle.lc_core.specs.Seat.{Free}
 use Rattle.lc_core.specs.declared.journal.Journal.{Journal}
 use Rattle.lc_core.specs.declared.log.Log.TheVariants.{Idle}
-use Rattle.lc_core.specs.declared.node.Node.{Node}
+use Rattle.lc_core.specs.declared.node_state.NodeState.{NodeState}
 use Rattle.lc_core.specs.declared.node_piece.NodePiece.{NodePiece}
 use Rattle.lc_core.specs.declared.segment_piece.SegmentPiece.{SegmentPiece}
-use Rattle.lc_core.specs.declared.slot.Slot.{Slot}
+use Rattle.lc_core.specs.declared.segment_copy.SegmentCopy.{SegmentCopy}
 
 -- The segments
 
@@ -69,15 +69,15 @@ bytes_of piece None = piece.stable_bytes.items
 bytes_of piece (Some token) = piece.bytes.items
 
 -- a slot of a segment where this stands
-pub record IsMadeSlot (segment : ℕ) (piece : SegmentPiece) (standing : Option Token) (slot : Slot) : Type 0 where
+pub record IsMadeSlot (segment : ℕ) (piece : SegmentPiece) (standing : Option Token) (slot : SegmentCopy) : Type 0 where
   pub bytes : slot.image.bytes.items ≡ bytes_of piece standing
   pub holders : slot.image.holders ≡ Unheld
   pub token : slot.token ≡ record { segment = segment; token = standing }
   pub parts : slot.parts ≡ fresh segment (number_of piece standing)
 
 -- the slots of a node, of these tokens
-abbrev pub AreMadeSlots : ℕ → List SegmentPiece → List (Option Token) → List Slot → Type 0
-AreMadeSlots node pieces tokens slots = (k : ℕ) (slot : Slot) (piece : SegmentPiece) (token : Option Token) → slice_get slots k ≡ Some slot → slice_get pieces k ≡ Some piece → slice_get tokens k ≡ Some token
+abbrev pub AreMadeSlots : ℕ → List SegmentPiece → List (Option Token) → List SegmentCopy → Type 0
+AreMadeSlots node pieces tokens slots = (k : ℕ) (slot : SegmentCopy) (piece : SegmentPiece) (token : Option Token) → slice_get slots k ≡ Some slot → slice_get pieces k ≡ Some piece → slice_get tokens k ≡ Some token
     → IsMadeSlot (k + 1) piece (standing_at node piece.holder token) slot
 
 -- the tokens that a node has left
@@ -114,7 +114,7 @@ module _ {D : Type 0} (a : Ghosts D) where
     pub round : journal.round ≡ piece.round
 
   -- a node of which no thread does anything
-  pub record IsMadeNode (g : Geometry) (n : ℕ) (segments : List SegmentPiece) (tokens : List (Option Token)) (piece : NodePiece D a) (node : Node D a) : Type 0 where
+  pub record IsMadeNode (g : Geometry) (n : ℕ) (segments : List SegmentPiece) (tokens : List (Option Token)) (piece : NodePiece D a) (node : NodeState D a) : Type 0 where
     pub seats : node.desk.seats.items ≡ replicate g.threads Free
     pub count : length node.desk.here.slots.items ≡ g.segments
     pub slots : AreMadeSlots n segments tokens node.desk.here.slots.items
@@ -122,5 +122,5 @@ module _ {D : Type 0} (a : Ghosts D) where
     pub journal : IsMadeJournal piece node.journal
     pub known : node.known ≡ piece.known
 
-  abbrev pub AreMadeNodes : Geometry → List SegmentPiece → List (Option Token) → List (NodePiece D a) → List (Node D a) → Type 0
-  AreMadeNodes g segments tokens pieces nodes = (n : ℕ) (node : Node D a) (piece : NodePiece D a) → slice_get nodes n ≡ Some node → slice_get pieces n ≡ Some piece → IsMadeNode g n segments tokens piece node
+  abbrev pub AreMadeNodes : Geometry → List SegmentPiece → List (Option Token) → List (NodePiece D a) → List (NodeState D a) → Type 0
+  AreMadeNodes g segments tokens pieces nodes = (n : ℕ) (node : NodeState D a) (piece : NodePiece D a) → slice_get nodes n ≡ Some node → slice_get pieces n ≡ Some piece → IsMadeNode g n segments tokens piece node

@@ -21,8 +21,8 @@ use Rattle.lc_tx.specs.declared.image.Image.{Image as Picture}
 use Rattle.lc_rest.specs.AtRest.{AllKeepTokens, AreMerged, IsFirst, KeepsToken}
 use Rattle.lc_core.specs.Pieces.{is_here}
 use Rattle.lc_core.specs.declared.node_images.NodeImages.{NodeImages}
-use Rattle.lc_rest.specs.declared.part.Part.{Part}
-use Rattle.lc_rest.specs.declared.part.Part.TheVariants.{Seat, Log, Token, Image}
+use Rattle.lc_rest.specs.declared.cluster_part.ClusterPart.{ClusterPart}
+use Rattle.lc_rest.specs.declared.cluster_part.ClusterPart.TheVariants.{Seat, Log, Token, Image}
 use Rattle.lc_core.specs.declared.read_parts.ReadParts.{ReadParts}
 
 -- what a list has of a segment, from segment 1 on
@@ -115,7 +115,7 @@ pub record PassesIn (r : ReadParts) (knowns : List (List ℕ)) (nodes : List Nod
   pub pictures : AllKeepPictures r nodes turns
 
 -- the test of this part is the first that fails
-abbrev pub FailsIn : ReadParts → List (List ℕ) → List NodeImages → Part → Type 0
+abbrev pub FailsIn : ReadParts → List (List ℕ) → List NodeImages → ClusterPart → Type 0
 FailsIn r knowns nodes (Seat node) = ⊥
 FailsIn r knowns nodes (Log node) = (node < r.geometry.nodes) × (IsFirst (KeepsAt r knowns) 0 node
     ⊎ (AllKeepAt r knowns × AllKeepTokens (tests_of r []) × ((turns : List ℕ) × IsStuck (logs_of r.logs.items) (first_numbers r) turns node)))

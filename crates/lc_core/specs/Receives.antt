@@ -19,7 +19,7 @@ use Rattle.lc_core.specs.Settled.{receive_answer}
 use Rattle.lc_core.specs.Slots.{besides_of, FitsSlots}
 use Rattle.lc_core.specs.Turns.{applied_to, held_back}
 use Rattle.lc_core.specs.declared.desk.Desk.{Desk}
-use Rattle.lc_core.specs.declared.slot.Slot.{Slot}
+use Rattle.lc_core.specs.declared.segment_copy.SegmentCopy.{SegmentCopy}
 
 -- the bytes with those of these parts laid over them, the first of them first
 abbrev pub parts_over : List Part → List ℕ → List ℕ
@@ -31,7 +31,7 @@ abbrev pub without_due : Backlog → Backlog
 without_due backlog = record backlog { due = [] }
 
 -- what was due is on the image, and nothing else of the slot has changed
-pub record CatchesUp (old new : Slot) : Type 0 where
+pub record CatchesUp (old new : SegmentCopy) : Type 0 where
   pub bytes : new.image.bytes.items ≡ parts_over old.parts.due old.image.bytes.items
   pub holders : new.image.holders ≡ old.image.holders
   pub token : new.token ≡ old.token
@@ -60,5 +60,5 @@ FollowsReceive segment whole old answer new =
     × FitsSlots m node (besides_of new.here) s (received_numbers x node segment number answer)
 
 -- the token is elsewhere, and the record's number of the segment is neither applied nor kept
-abbrev pub IsNew : ℕ → Record → Slot → Type 0
+abbrev pub IsNew : ℕ → Record → SegmentCopy → Type 0
 IsNew segment whole slot = (slot.token.token ≡ None) × ForSome (part_of segment whole) (λ part. is_known slot.parts part.seq ≡ false)

@@ -13,9 +13,9 @@ use Rattle.lc_model.specs.declared.reply.Reply.TheVariants.{Stepped, Recovered, 
 use Rattle.lc_core.specs.Fresh.{IsFresh}
 use Rattle.lc_core.specs.Log.{area_of}
 use Rattle.lc_core.specs.Pages.{RestsAll, areas_of}
-use Rattle.lc_core.specs.declared.node.Node.{Node}
-use Rattle.lc_core.specs.declared.phase.Phase.{Phase}
-use Rattle.lc_core.specs.declared.phase.Phase.TheVariants.{Up as IsUp}
+use Rattle.lc_core.specs.declared.node_state.NodeState.{NodeState}
+use Rattle.lc_core.specs.declared.world_phase.WorldPhase.{WorldPhase}
+use Rattle.lc_core.specs.declared.world_phase.WorldPhase.TheVariants.{Up as IsUp}
 use Rattle.lc_core.specs.declared.up.Up.{Up}
 
 abbrev pub RepliesTo : {E : Type 0} → Result Progress RecoverFault → Result Reply E → Type 0
@@ -30,7 +30,7 @@ module _ {D : Type 0} (a : Ghosts D) where
     pub geometry : store.geometry ≡ r.geometry
     pub areas : store.areas ≡ r.areas
     pub same_geometry : up.running.geometry ≡ r.geometry
-    pub log_areas : (n : ℕ) (node : Node D a) → slice_get up.running.nodes.items n ≡ Some node → area_of a node.journal.log ≡ slice_get r.areas n
+    pub log_areas : (n : ℕ) (node : NodeState D a) → slice_get up.running.nodes.items n ≡ Some node → area_of a node.journal.log ≡ slice_get r.areas n
     pub made : IsMade a store
     pub each : AreFinished a store
     pub fresh : IsFresh a store up.running
@@ -39,5 +39,5 @@ module _ {D : Type 0} (a : Ghosts D) where
     pub segments : areas_of a up.segments.items ≡ drop r.geometry.nodes r.areas
     pub rest : RestsAll a r.geometry up.segments.items
 
-  abbrev pub HasComeUp : Recovering D → Phase D a → Type 0
+  abbrev pub HasComeUp : Recovering D → WorldPhase D a → Type 0
   HasComeUp r phase = (up : Up D a) × (phase ≡ IsUp up) × ComesUp r up

@@ -2,7 +2,7 @@
 use Rattle.std.specs.Prelude.{◌≡◌, ◌⊎◌, ℕ, ◌+◌, ◌*◌, ◌<◌, ◌≤◌, Bool, true, false, List, map, Option, None, Some, if◌then◌else◌}
 use Rattle.lc_disk.specs.declared.area.Area.{Ghosts}
 use Rattle.lc_record.specs.Content.{Content}
-use Rattle.lc_model.specs.Merge.{Store, MergesTo}
+use Rattle.lc_model.specs.Merge.{StoreText, MergesTo}
 use Rattle.lc_model.specs.declared.event.Event.{Event}
 use Rattle.lc_model.specs.declared.event.Event.TheVariants.{RecoverStep}
 use Rattle.lc_model.specs.declared.refusal.Refusal.{Refusal}
@@ -17,12 +17,12 @@ use Rattle.lc_recover.specs.declared.fault.RecoverFault.{RecoverFault}
 use Rattle.lc_core.specs.Anew.{StartsAnew}
 use Rattle.lc_recover.specs.Fault.{refusal_to}
 use Rattle.lc_core.specs.Stepping.{works_up}
-use Rattle.lc_core.specs.declared.phase.Phase.{Phase}
-use Rattle.lc_core.specs.declared.phase.Phase.TheVariants.{Down, Up, Taken}
+use Rattle.lc_core.specs.declared.world_phase.WorldPhase.{WorldPhase}
+use Rattle.lc_core.specs.declared.world_phase.WorldPhase.TheVariants.{Down, Up, Taken}
 use Rattle.lc_core.specs.declared.up.Up.{Up as Rising}
 
 -- the store merges, and the reply is a step; or it is refused, and so is the reply
-abbrev pub AnswersMerge : Store → Reply → Type 0
+abbrev pub AnswersMerge : StoreText → Reply → Type 0
 AnswersMerge store reply =
     ((content : Content) × (numbers : ℕ → ℕ) × MergesTo store content numbers × ((steps : ℕ) × (reply ≡ Stepped steps)))
     ⊎ ((fault : RecoverFault) × (refusal : Refusal) × IsRefusal store fault × (refusal_to fault ≡ Some refusal) × (reply ≡ Refused refusal))
@@ -37,7 +37,7 @@ is_recovery event = false
 
 module _ {D : Type 0} (a : Ghosts D) where
   -- a step is counted, and after a refusal the recovery begins again; up comes only what has made its last step
-  pub record AnswersRecovery (r : Recovering D) (reply : Reply) (new : Phase D a) : Type 0 where
+  pub record AnswersRecovery (r : Recovering D) (reply : Reply) (new : WorldPhase D a) : Type 0 where
     pub stepped : (steps : ℕ) → reply ≡ Stepped steps →
         (steps ≡ r.steps + 1) × ((later : Recovering D) × (new ≡ Down later) × (later.geometry ≡ r.geometry) × (later.steps ≡ steps))
     pub recovered : reply ≡ Recovered → IsLast r × ((up : Rising D a) × (new ≡ Up up))
@@ -58,15 +58,15 @@ module _ {D : Type 0} (a : Ghosts D) where
     pub anew : IsMergeNext r → AreHonest a r.areas → (steps : ℕ) → reply ≡ Stepped steps → StartsAnew a r.geometry steps new
 
   -- so does a store that is down
-  abbrev pub RecoversDown : Phase D a → Reply → Phase D a → Type 0
+  abbrev pub RecoversDown : WorldPhase D a → Reply → WorldPhase D a → Type 0
   RecoversDown old reply new = (r : Recovering D) → old ≡ Down r → AnswersRecovery r reply new
 
   -- why a store refuses an event at once: one that is down recovers or stops again, and one that is up does not recover
-  abbrev pub at_once : Phase D a → Event → Option Refusal
+  abbrev pub at_once : WorldPhase D a → Event → Option Refusal
   at_once (Down r) event = if works_up event then Some IsDown else None
   at_once (Up up) event = if is_recovery event then Some OutOfTurn else None
   at_once Taken event = if works_up event then Some IsDown else if is_recovery event then Some OutOfTurn else None
 
   -- that is the reply, and nothing changes
-  abbrev pub RefusesAtOnce : Phase D a → Event → Reply → Phase D a → Type 0
+  abbrev pub RefusesAtOnce : WorldPhase D a → Event → Reply → WorldPhase D a → Type 0
   RefusesAtOnce old event reply new = (refusal : Refusal) → at_once old event ≡ Some refusal → (reply ≡ Refused refusal) × (new ≡ old)

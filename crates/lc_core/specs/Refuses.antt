@@ -8,7 +8,7 @@ use Rattle.lc_model.specs.declared.refusal.Refusal.{Refusal}
 use Rattle.lc_core.specs.Log.{is_failed}
 use Rattle.lc_core.specs.Numbers.{Numbers}
 use Rattle.lc_core.specs.Running.{FitsRunning}
-use Rattle.lc_core.specs.declared.node.Node.{Node}
+use Rattle.lc_core.specs.declared.node_state.NodeState.{NodeState}
 use Rattle.lc_core.specs.declared.running.Running.{Running}
 
 module _ {D : Type 0} (a : Ghosts D) where
@@ -17,6 +17,6 @@ module _ {D : Type 0} (a : Ghosts D) where
   Refuses w event refusal = (m : Setting) (s : State) (x : Numbers) → FitsRunning a m w s x → refusal ≡ common_refusal m.geometry s event
 
   -- the log of the node that acts has not failed
-  abbrev pub ActsRunning : Option Named → List (Node D a) → Type 0
+  abbrev pub ActsRunning : Option Named → List (NodeState D a) → Type 0
   ActsRunning None nodes = Unit {0}
-  ActsRunning (Some named) nodes = (node : Node D a) → slice_get nodes named.node ≡ Some node → is_failed a node.journal.log ≡ false
+  ActsRunning (Some named) nodes = (node : NodeState D a) → slice_get nodes named.node ≡ Some node → is_failed a node.journal.log ≡ false

@@ -5,18 +5,18 @@ use Rattle.lc_model.specs.Refusals.{is_node}
 use Rattle.lc_model.specs.State.{Setting, State, Up as IsUp}
 use Rattle.lc_core.specs.Numbers.{Numbers}
 use Rattle.lc_core.specs.World.{FitsWorld}
-use Rattle.lc_core.specs.declared.node.Node.{Node}
-use Rattle.lc_core.specs.declared.phase.Phase.{Phase}
-use Rattle.lc_core.specs.declared.phase.Phase.TheVariants.{Down, Up, Taken}
+use Rattle.lc_core.specs.declared.node_state.NodeState.{NodeState}
+use Rattle.lc_core.specs.declared.world_phase.WorldPhase.{WorldPhase}
+use Rattle.lc_core.specs.declared.world_phase.WorldPhase.TheVariants.{Down, Up, Taken}
 use Rattle.lc_core.specs.declared.world.World.{World}
 
 module _ {D : Type 0} (a : Ghosts D) where
   -- the one that stands in its journal
-  abbrev pub round_at : Option (Node D a) → ℕ
+  abbrev pub round_at : Option (NodeState D a) → ℕ
   round_at None = 0
   round_at (Some node) = node.journal.round
 
-  abbrev pub round_in : Phase D a → ℕ → ℕ
+  abbrev pub round_in : WorldPhase D a → ℕ → ℕ
   round_in (Up up) node = round_at (slice_get up.running.nodes.items node)
   round_in (Down recovery) node = 0
   round_in Taken node = 0

@@ -13,13 +13,13 @@ use Rattle.lc_model.specs.declared.event.Event.TheVariants.{Leave}
 use Rattle.lc_model.specs.declared.reply.Reply.{Reply}
 use Rattle.lc_core.specs.Coherent.{AreCoherent}
 use Rattle.lc_core.specs.Growing.{MayReadSome, MaySetMore}
-use Rattle.lc_core.specs.Node.{FitsNode}
+use Rattle.lc_core.specs.NodeState.{FitsNode}
 use Rattle.lc_core.specs.Numbers.{Numbers}
 use Rattle.lc_core.specs.Prepares.{GetsPlace}
 use Rattle.lc_core.specs.Settled.{Settled, is_writing}
 use Rattle.lc_core.specs.Slots.{FitsToken}
 use Rattle.lc_core.specs.Turns.{Turns}
-use Rattle.lc_core.specs.declared.node.Node.{Node}
+use Rattle.lc_core.specs.declared.node_state.NodeState.{NodeState}
 use Rattle.lc_core.specs.declared.running.Running.{Running}
 
 -- the tokens that are on their way, each at the place of its segment
@@ -29,10 +29,10 @@ pub record FitsTravelling (m : Setting) (tokens : List (Option Token)) (s : Stat
   pub none : (k : ℕ) → slice_get tokens k ≡ Some None → s.place (k + 1) ≡ Travelling → ⊥
 
 module _ {D : Type 0} (a : Ghosts D) where
-  abbrev pub FitsNodes : Setting → List (Node D a) → State → Numbers → Type 0
-  FitsNodes m nodes s x = (n : ℕ) (node : Node D a) → slice_get nodes n ≡ Some node → FitsNode a m n node s x
+  abbrev pub FitsNodes : Setting → List (NodeState D a) → State → Numbers → Type 0
+  FitsNodes m nodes s x = (n : ℕ) (node : NodeState D a) → slice_get nodes n ≡ Some node → FitsNode a m n node s x
 
-  pub record FitsAll (m : Setting) (geometry : Geometry) (nodes : List (Node D a)) (travelling : List (Option Token)) (s : State) (x : Numbers) : Type 0 where
+  pub record FitsAll (m : Setting) (geometry : Geometry) (nodes : List (NodeState D a)) (travelling : List (Option Token)) (s : State) (x : Numbers) : Type 0 where
     pub geometry_is : m.geometry ≡ geometry
     pub up : s.phase ≡ Up
     pub sound : Sound m.geometry s
@@ -47,7 +47,7 @@ module _ {D : Type 0} (a : Ghosts D) where
   FitsRunning m w s x = FitsAll m w.geometry w.nodes.items w.travelling.items s x
 
   -- what a reply leads to: states and numbers that the event's row and the numbers allow, and that fit
-  pub record Onward (m : Setting) (event : Event) (s : State) (x : Numbers) (reply : Reply) (geometry : Geometry) (nodes : List (Node D a)) (travelling : List (Option Token)) : Type 0 where
+  pub record Onward (m : Setting) (event : Event) (s : State) (x : Numbers) (reply : Reply) (geometry : Geometry) (nodes : List (NodeState D a)) (travelling : List (Option Token)) : Type 0 where
     pub after : State
     pub next : Numbers
     pub row : Row m s event reply after
@@ -70,12 +70,12 @@ module _ {D : Type 0} (a : Ghosts D) where
   -- the thread's open transaction at that node may set these positions, of which some is not set yet
   abbrev pub WantsRange : ℕ → ℕ → ℕ → ℕ → ℕ → Running D a → Type 0
   WantsRange n thread segment offset len old =
-      (node : Node D a) × (slice_get old.nodes.items n ≡ Some node) × MaySetMore thread segment offset len node.desk
+      (node : NodeState D a) × (slice_get old.nodes.items n ≡ Some node) × MaySetMore thread segment offset len node.desk
 
   -- it may read these bytes, of which there is one at least
   abbrev pub WantsBytes : ℕ → ℕ → ℕ → ℕ → ℕ → Running D a → Type 0
   WantsBytes n thread segment offset len old =
-      (node : Node D a) × (slice_get old.nodes.items n ≡ Some node) × MayReadSome thread segment offset len node.desk
+      (node : NodeState D a) × (slice_get old.nodes.items n ≡ Some node) × MayReadSome thread segment offset len node.desk
 
   -- the thread's transaction gets its place at that node, in each state and with the numbers that this fits
   abbrev pub WantsPlaceAt : ℕ → ℕ → Running D a → Type 0

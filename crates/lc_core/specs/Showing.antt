@@ -10,10 +10,10 @@ use Rattle.lc_model.specs.State.{Setting, State}
 use Rattle.lc_core.specs.Numbers.{Numbers}
 use Rattle.lc_core.specs.Slots.{segment_to}
 use Rattle.lc_core.specs.World.{FitsWorld}
-use Rattle.lc_core.specs.declared.node.Node.{Node}
-use Rattle.lc_core.specs.declared.phase.Phase.{Phase}
-use Rattle.lc_core.specs.declared.phase.Phase.TheVariants.{Up}
-use Rattle.lc_core.specs.declared.slot.Slot.{Slot}
+use Rattle.lc_core.specs.declared.node_state.NodeState.{NodeState}
+use Rattle.lc_core.specs.declared.world_phase.WorldPhase.{WorldPhase}
+use Rattle.lc_core.specs.declared.world_phase.WorldPhase.TheVariants.{Up}
+use Rattle.lc_core.specs.declared.segment_copy.SegmentCopy.{SegmentCopy}
 use Rattle.lc_core.specs.declared.world.World.{World}
 
 -- the open transaction that has locked the segment for writing
@@ -42,8 +42,8 @@ module _ {D : Type 0} (a : Ghosts D) where
       (m : Setting) (s : State) (x : Numbers) → FitsWorld a m w s x → bytes ≡ page_of (image_of m s x node segment) page
 
   -- these are the bytes of the page of the image that the node has of the segment
-  abbrev pub LendsPage : Phase D a → ℕ → ℕ → ℕ → List ℕ → Type 0
+  abbrev pub LendsPage : WorldPhase D a → ℕ → ℕ → ℕ → List ℕ → Type 0
   LendsPage (Up up) node segment page bytes =
-      (its : Node D a) × (slot : Slot) × (1 ≤ segment) × (slice_get up.running.nodes.items node ≡ Some its)
+      (its : NodeState D a) × (slot : SegmentCopy) × (1 ≤ segment) × (slice_get up.running.nodes.items node ≡ Some its)
       × (slice_get its.desk.here.slots.items (segment - 1) ≡ Some slot) × (bytes ≡ page_of slot.image.bytes.items page)
   LendsPage phase node segment page bytes = ⊥

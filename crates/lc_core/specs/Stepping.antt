@@ -15,7 +15,7 @@ use Rattle.lc_core.specs.Refuses.{Refuses}
 use Rattle.lc_core.specs.Running.{FitsAll, FitsRunning, WantsBytes, WantsPlaceAt, WantsRange}
 use Rattle.lc_core.specs.Settled.{Settled, is_writing}
 use Rattle.lc_core.specs.Turns.{Turns}
-use Rattle.lc_core.specs.declared.node.Node.{Node}
+use Rattle.lc_core.specs.declared.node_state.NodeState.{NodeState}
 use Rattle.lc_core.specs.declared.running.Running.{Running}
 
 -- the event is of a node, and so for a store that is up
@@ -36,7 +36,7 @@ TellsWriting m x event writing = Unit {0}
 
 module _ {D : Type 0} (a : Ghosts D) where
   -- a step of the machine under this reply, which is settled, and the numbers after it
-  pub record StepsOn (m : Setting) (event : Event) (s : State) (x : Numbers) (reply : Reply) (geometry : Geometry) (nodes : List (Node D a)) (travelling : List (Option Token)) : Type 0 where
+  pub record StepsOn (m : Setting) (event : Event) (s : State) (x : Numbers) (reply : Reply) (geometry : Geometry) (nodes : List (NodeState D a)) (travelling : List (Option Token)) : Type 0 where
     pub after : State
     pub next : Numbers
     pub step : Step m s event reply after

@@ -21,13 +21,13 @@ use Rattle.lc_core.specs.Recovers.{RefusesAtOnce}
 use Rattle.lc_core.specs.Uncommitted.{HasSeatOn}
 use Rattle.lc_core.specs.Lives.{Anyhow}
 use Rattle.lc_core.specs.World.{FollowsWorld}
-use Rattle.lc_core.specs.declared.node.Node.{Node}
+use Rattle.lc_core.specs.declared.node_state.NodeState.{NodeState}
 use Rattle.lc_core.specs.declared.page_state.PageState.{PageState}
 use Rattle.lc_core.specs.declared.page_state.PageState.TheVariants.{AtRest, UnderWay, Failed}
 use Rattle.lc_core.specs.declared.pages.Pages.{Pages}
-use Rattle.lc_core.specs.declared.phase.Phase.{Phase}
-use Rattle.lc_core.specs.declared.phase.Phase.TheVariants.{Down, Up, Taken}
-use Rattle.lc_core.specs.declared.slot.Slot.{Slot}
+use Rattle.lc_core.specs.declared.world_phase.WorldPhase.{WorldPhase}
+use Rattle.lc_core.specs.declared.world_phase.WorldPhase.TheVariants.{Down, Up, Taken}
+use Rattle.lc_core.specs.declared.segment_copy.SegmentCopy.{SegmentCopy}
 use Rattle.lc_core.specs.declared.world.World.{World}
 
 -- the events that a truncation is made of
@@ -66,11 +66,11 @@ abbrev pub due_of : ℕ → Bool → Option Token → Bool
 due_of page begun None = false
 due_of page begun (Some token) = is_dirty (entry_at token.pages page) || begun
 
-abbrev pub due_in : ℕ → Bool → Option Slot → Bool
+abbrev pub due_in : ℕ → Bool → Option SegmentCopy → Bool
 due_in page begun None = false
 due_in page begun (Some slot) = due_of page begun slot.token.token
 
-abbrev pub due_at : ℕ → ℕ → Bool → {D : Type 0} {a : Ghosts D} → Option (Node D a) → Bool
+abbrev pub due_at : ℕ → ℕ → Bool → {D : Type 0} {a : Ghosts D} → Option (NodeState D a) → Bool
 due_at segment page begun None = false
 due_at segment page begun (Some node) = due_in page begun (slice_get node.desk.here.slots.items (segment - 1))
 
@@ -94,36 +94,36 @@ abbrev pub newer_of : ℕ → Option ℕ → Option Token → Bool
 newer_of page under_way None = false
 newer_of page under_way (Some token) = nat_lt (unwrap_or under_way (entry_at token.pages page).stable) (entry_at token.pages page).touched
 
-abbrev pub newer_in : ℕ → Option ℕ → Option Slot → Bool
+abbrev pub newer_in : ℕ → Option ℕ → Option SegmentCopy → Bool
 newer_in page under_way None = false
 newer_in page under_way (Some slot) = newer_of page under_way slot.token.token
 
-abbrev pub newer_at : ℕ → ℕ → Option ℕ → {D : Type 0} {a : Ghosts D} → Option (Node D a) → Bool
+abbrev pub newer_at : ℕ → ℕ → Option ℕ → {D : Type 0} {a : Ghosts D} → Option (NodeState D a) → Bool
 newer_at segment page under_way None = false
 newer_at segment page under_way (Some node) = newer_in page under_way (slice_get node.desk.here.slots.items (segment - 1))
 
 -- a transaction of the node that is not over has set a position on the page
-abbrev pub HasOpenOn : ℕ → ℕ → {D : Type 0} {a : Ghosts D} → Option (Node D a) → Type 0
+abbrev pub HasOpenOn : ℕ → ℕ → {D : Type 0} {a : Ghosts D} → Option (NodeState D a) → Type 0
 HasOpenOn segment page None = ⊥
 HasOpenOn segment page (Some node) = HasSeatOn segment page node.desk.seats.items
 
 module _ {D : Type 0} (a : Ghosts D) where
   -- the page of the segment, from 1, is to be written at the node
-  abbrev pub is_due : Phase D a → ℕ → ℕ → ℕ → Bool
+  abbrev pub is_due : WorldPhase D a → ℕ → ℕ → ℕ → Bool
   is_due (Up up) node segment page =
       due_at segment page (begun_in page (slice_get up.segments.items (segment - 1))) (slice_get up.running.nodes.items node)
   is_due (Down recovery) node segment page = false
   is_due Taken node segment page = false
 
   -- how many segments a store has that is up, and pages each of them
-  abbrev pub sizes_of : Phase D a → ℕ × ℕ
+  abbrev pub sizes_of : WorldPhase D a → ℕ × ℕ
   sizes_of (Up up) = (up.running.geometry.segments, up.running.geometry.pages)
   sizes_of (Down recovery) = (0, 0)
   sizes_of Taken = (0, 0)
 
   -- the page of the segment, from 1, is to be written at the node, now or after the write that is under way. And that
   -- write would be refused, since a transaction that is not over has set a position on the page
-  abbrev pub IsBlocked : Phase D a → ℕ → ℕ → ℕ → Type 0
+  abbrev pub IsBlocked : WorldPhase D a → ℕ → ℕ → ℕ → Type 0
   IsBlocked (Up up) node segment page =
       (newer_at segment page (under_way_in page (slice_get up.segments.items (segment - 1))) (slice_get up.running.nodes.items node) ≡ true)
       × HasOpenOn segment page (slice_get up.running.nodes.items node)
@@ -131,13 +131,13 @@ module _ {D : Type 0} (a : Ghosts D) where
   IsBlocked Taken node segment page = ⊥
 
   -- so is one of the first pages of a segment
-  pub record HasBlockedIn (phase : Phase D a) (node segment pages : ℕ) : Type 0 where
+  pub record HasBlockedIn (phase : WorldPhase D a) (node segment pages : ℕ) : Type 0 where
     pub page : ℕ
     pub within : page < pages
     pub blocked : IsBlocked phase node segment page
 
   -- so is one of these pages of so many segments
-  pub record HasBlocked (phase : Phase D a) (node : ℕ) (sizes : ℕ × ℕ) : Type 0 where
+  pub record HasBlocked (phase : WorldPhase D a) (node : ℕ) (sizes : ℕ × ℕ) : Type 0 where
     pub place : ℕ
     pub inside : place < sizes.0
     pub blocked : HasBlockedIn phase node (place + 1) sizes.1

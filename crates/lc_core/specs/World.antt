@@ -9,7 +9,7 @@ use Rattle.lc_recover.specs.Reads.{AreHonest, AllMergeTo, HaveLengths}
 use Rattle.lc_recover.specs.Recovery.{Recovering, IsLast, TakesMemory}
 use Rattle.lc_model.specs.History.{Cut, kept}
 use Rattle.lc_model.specs.Machine.{Step}
-use Rattle.lc_model.specs.Merge.{MergesTo, Page, Store}
+use Rattle.lc_model.specs.Merge.{MergesTo, Page, StoreText}
 use Rattle.lc_model.specs.Recovered.{AreRenewed, IsReadable}
 use Rattle.lc_model.specs.Sound.{Sound}
 use Rattle.lc_model.specs.State.{DownAt, Up as IsUpNow, Setting, State, fresh}
@@ -25,8 +25,8 @@ use Rattle.lc_core.specs.Running.{FitsRunning}
 use Rattle.lc_core.specs.Settled.{Settled}
 use Rattle.lc_core.specs.Stepping.{AsksMemory}
 use Rattle.lc_core.specs.Turns.{Turns, kept_numbers}
-use Rattle.lc_core.specs.declared.phase.Phase.{Phase}
-use Rattle.lc_core.specs.declared.phase.Phase.TheVariants.{Down, Up, Taken}
+use Rattle.lc_core.specs.declared.world_phase.WorldPhase.{WorldPhase}
+use Rattle.lc_core.specs.declared.world_phase.WorldPhase.TheVariants.{Down, Up, Taken}
 use Rattle.lc_core.specs.declared.world.World.{World}
 use Rattle.lc_core.specs.declared.up.Up.{Up as UpStore}
 
@@ -58,7 +58,7 @@ module _ {D : Type 0} (a : Ghosts D) where
     pub failed : HaltAll a s up.segments.items
 
   -- of a store whose areas keep to the model of a disk
-  abbrev pub FitsPhase : Setting → Phase D a → State → Numbers → Type 0
+  abbrev pub FitsPhase : Setting → WorldPhase D a → State → Numbers → Type 0
   FitsPhase m (Down recovery) s x = FitsDown m recovery s x
   FitsPhase m (Up up) s x = FitsUp m up s x × HonestUp a up
   FitsPhase m Taken s x = ⊥
@@ -66,7 +66,7 @@ module _ {D : Type 0} (a : Ghosts D) where
   abbrev pub FitsWorld : Setting → World D a → State → Numbers → Type 0
   FitsWorld m w s x = FitsPhase m w.phase s x
 
-  abbrev pub Leads : Setting → Event → State → Numbers → Reply → Phase D a → Type 0
+  abbrev pub Leads : Setting → Event → State → Numbers → Reply → WorldPhase D a → Type 0
   Leads m event s x reply new = LeadsTo m event s x reply (FitsPhase m new)
 
   -- whatever state and numbers it fits
@@ -79,7 +79,7 @@ module _ {D : Type 0} (a : Ghosts D) where
 
   -- what has come up fits the machine's fresh state, with the content of a store that merges to it: the pages that are up are its own
   pub record BeginsAnew (g : Geometry) (up : UpStore D a) : Type 0 where
-    pub store : Store
+    pub store : StoreText
     pub content : Content
     pub numbers : ℕ → ℕ
     pub pages : ℕ → ℕ → Page
@@ -90,11 +90,11 @@ module _ {D : Type 0} (a : Ghosts D) where
     pub fits : FitsUp (record { geometry = g; start = content }) up (fresh g [] IsUpNow) (recovered_numbers g numbers pages texts)
 
   -- what an event of a store that is up leads to, whatever its areas are
-  abbrev pub FollowsAnyhow : Phase D a → Event → Reply → Phase D a → Type 0
+  abbrev pub FollowsAnyhow : WorldPhase D a → Event → Reply → WorldPhase D a → Type 0
   FollowsAnyhow old event reply new = (up : UpStore D a) → old ≡ Up up → (later : UpStore D a) × (new ≡ Up later) × FollowsUp up event reply later
 
   -- and the last step of a recovery
-  abbrev pub Begins : Phase D a → Phase D a → Type 0
+  abbrev pub Begins : WorldPhase D a → WorldPhase D a → Type 0
   Begins old new = (r : Recovering D) → old ≡ Down r → (up : UpStore D a) × (new ≡ Up up) × BeginsAnew r.geometry up
 
   abbrev pub StillFitsUp : UpStore D a → UpStore D a → Type 0
@@ -113,7 +113,7 @@ module _ {D : Type 0} (a : Ghosts D) where
   AsksAtAll recovery RecoverStep = TakesMemory recovery ⊎ IsLast recovery
   AsksAtAll recovery event = ⊥
 
-  abbrev pub AsksIn : Phase D a → Event → Type 0
+  abbrev pub AsksIn : WorldPhase D a → Event → Type 0
   AsksIn (Down recovery) event = AsksAtAll recovery event
   AsksIn (Up up) event = AsksMemory a up.running event
   AsksIn Taken event = ⊥

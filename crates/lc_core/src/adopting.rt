@@ -9,11 +9,11 @@ ghost use Rattle.lc_core.specs.Pieces.{AreLeftAt, AreLeftBy, AreMadeNodes, AreMa
 use crate::desk::Desk;
 use crate::journal::Journal;
 use crate::log::Log;
-use crate::node::Node;
 use crate::node_piece::NodePiece;
+use crate::node_state::NodeState;
+use crate::segment_copy::SegmentCopy;
 use crate::segment_piece::SegmentPiece;
 use crate::segment_pieces::SegmentPieces;
-use crate::slot::Slot;
 use lc_disk::Area;
 use lc_rest::Holder;
 use lc_token::{HoldBack, Token, TokenPlace};
@@ -42,7 +42,7 @@ fn take_here(token: &mut Option<Token>, node: u16, holder: Holder) -> Option<Tok
     }
 }
 
-impl Slot {
+impl SegmentCopy {
     /// The slot of a segment, from 1, gets the token where it is to stand at this node, and the bytes and the number that the
     /// segment has here. It takes no memory.
     pub(crate) fn adopt(
@@ -71,7 +71,7 @@ impl Slot {
 
 // The slots of a node, from segment 1 on, get what their segments are made of, and the tokens that are here.
 fn adopt_slots(
-    slots: &mut [Slot],
+    slots: &mut [SegmentCopy],
     alloc: Global,
     node: u16,
     segments: &SegmentPieces,
@@ -134,7 +134,7 @@ impl<D: Area + Drop> Journal<D> {
             stable,
             known,
         } = piece;
-        let dropped = records.before();
+        let dropped = records.dropped_count();
         self.log = Log::Idle(log);
         self.records = records;
         self.dropped = dropped;
@@ -146,7 +146,7 @@ impl<D: Area + Drop> Journal<D> {
     }
 }
 
-impl<D: Area + Drop> Node<D> {
+impl<D: Area + Drop> NodeState<D> {
     /// A node, of which no thread does anything, gets its log and its records, and of each segment what it has here. It takes no
     /// memory.
     pub(crate) fn adopt(
@@ -173,7 +173,7 @@ impl<D: Area + Drop> Node<D> {
 
 /// The nodes, from node 0 on, get their pieces, and the tokens that are at them. It takes no memory.
 pub(crate) fn adopt_nodes<D: Area + Drop>(
-    nodes: &mut [Node<D>],
+    nodes: &mut [NodeState<D>],
     alloc: Global,
     mut pieces: Vec<NodePiece<D>>,
     segments: &SegmentPieces,

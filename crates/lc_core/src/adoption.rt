@@ -4,14 +4,14 @@ ghost use Rattle.lc_rest.specs.AtRest.{AgreeAll, FailsFirst, HasPart};
 ghost use Rattle.lc_rest.specs.Parts.{AreHonest, AreKept, FailsOnce};
 ghost use Rattle.lc_core.specs.Adoption.{IsAdoption};
 ghost use Rattle.lc_rest.specs.declared.adopt_fault.AdoptFault.TheVariants.{DeviceFault as Failed, Mismatch};
-ghost use Rattle.lc_rest.specs.declared.part.Part.{Part as ThePart};
-ghost use Rattle.lc_rest.specs.declared.part.Part.TheVariants.{Seat};
+ghost use Rattle.lc_rest.specs.declared.cluster_part.ClusterPart.{ClusterPart as ThePart};
+ghost use Rattle.lc_rest.specs.declared.cluster_part.ClusterPart.TheVariants.{Seat};
 
 use crate::adopted_parts::adopted_parts;
-use crate::phase::Phase;
 use crate::read_cluster::ReadCluster;
-use crate::room::Room;
 use crate::world::World;
+use crate::world_phase::WorldPhase;
+use crate::world_room::WorldRoom;
 use lc_disk::Area;
 use lc_rest::{AdoptFault, Parts};
 use std::alloc::Global;
@@ -36,12 +36,12 @@ impl<D: Area + Drop> World<D> {
         ensures no_seat { (node : ℕ) → result ≡ Err (Mismatch (Seat node)) → ⊥ }
         ensures device { result ≡ Err Failed → FailsOnce D.Area parts }
     {
-        let room = Room::new(alloc, parts.geometry)?;
+        let room = WorldRoom::new(alloc, parts.geometry)?;
         let cluster = ReadCluster::read(alloc, parts)?;
         let up = cluster.build(alloc, room)?;
         adopted_parts::<D>();
         Ok(World {
-            phase: Phase::Up(up),
+            phase: WorldPhase::Up(up),
         })
     }
 }

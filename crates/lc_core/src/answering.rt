@@ -5,8 +5,8 @@ ghost use Rattle.lc_model.specs.declared.event.Event.TheVariants.{RecoverStep, S
 ghost use Rattle.lc_model.specs.declared.reply.Reply.TheVariants.{Down as IsDown};
 ghost use Rattle.lc_core.specs.Stops.{IsLeftBy, StopsAll};
 
-use crate::phase::Phase;
 use crate::world::World;
+use crate::world_phase::WorldPhase;
 use crate::{Event, Refusal, Reply};
 use lc_disk::Stoppable;
 use std::alloc::{AllocError, Global};
@@ -73,7 +73,7 @@ impl<D: Stoppable + Drop> World<D> {
             return Ok(self.stop(choices.as_slice()));
         }
         match &mut self.phase {
-            Phase::Up(up) => up.step(alloc, event),
+            WorldPhase::Up(up) => up.step(alloc, event),
             _ => Ok(Reply::Refused(Refusal::Down)),
         }
     }

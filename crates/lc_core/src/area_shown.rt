@@ -5,9 +5,9 @@ ghost use Rattle.lc_core.specs.Pages.{areas_of};
 ghost use Rattle.lc_core.specs.Stops.{HasAreas};
 ghost use Rattle.lc_record.specs.declared.geometry.Geometry.{Geometry as Sizes};
 
-use crate::phase::Phase;
 use crate::up::Up;
 use crate::world::World;
+use crate::world_phase::WorldPhase;
 use lc_disk::Area;
 
 impl<D: Area + Drop> World<D> {
@@ -17,9 +17,9 @@ impl<D: Area + Drop> World<D> {
         ensures { (g : Sizes) (areas : List D) → HasAreas D.Area self.now.phase g areas → option_copied result ≡ slice_get areas place }
     {
         match &self.phase {
-            Phase::Down(recovery) => recovery.area(place),
-            Phase::Up(up) => up.area(place),
-            Phase::Taken => None,
+            WorldPhase::Down(recovery) => recovery.area(place),
+            WorldPhase::Up(up) => up.area(place),
+            WorldPhase::Taken => None,
         }
     }
 }

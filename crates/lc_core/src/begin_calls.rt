@@ -11,13 +11,13 @@ ghost use Rattle.lc_core.specs.NodeSteps.{StepsNode};
 ghost use Rattle.lc_core.specs.Refuses.{ActsRunning, Refuses};
 
 use crate::named::knows_begin;
-use crate::node::Node;
+use crate::node_state::NodeState;
 use crate::running::Running;
 use crate::up::Up;
 use crate::{Refusal, Reply};
 use lc_disk::Area;
 
-impl<D: Area + Drop> Node<D> {
+impl<D: Area + Drop> NodeState<D> {
     /// One of its threads begins. It takes no memory.
     pub(crate) fn begin(&mut self, thread: u16, segments: &[u32], reading: &[u32]) -> Reply
         requires seat { thread < vec_len self.old.desk.seats }

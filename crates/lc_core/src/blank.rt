@@ -6,9 +6,9 @@ use crate::desk::Desk;
 use crate::here::Here;
 use crate::journal::Journal;
 use crate::log::Log;
-use crate::node::Node;
+use crate::node_state::NodeState;
 use crate::records::Records;
-use crate::slot::Slot;
+use crate::segment_copy::SegmentCopy;
 use lc_disk::Area;
 use lc_page::{PageText, PageVector};
 use lc_record::{Geometry, Group};
@@ -24,14 +24,14 @@ const UNWRITTEN: PageText = PageText {
     gates: [false; 2],
 };
 
-impl Slot {
+impl SegmentCopy {
     /// The slot of a segment, from 1, of zeros, with its token where it is to stand at this node. It takes memory for both.
     pub(crate) fn blank(
         alloc: Global,
         geometry: &Geometry,
         node: u16,
         segment: u32,
-    ) -> Result<Slot, AllocError>
+    ) -> Result<SegmentCopy, AllocError>
         ensures slot { IfOk result (IsOfSegment geometry.now segment) }
         ensures stands { IfOk result (StandsAt geometry.now node segment) }
     {
@@ -40,7 +40,7 @@ impl Slot {
         } else {
             None
         };
-        Ok(Slot {
+        Ok(SegmentCopy {
             image: Image::new(vec![in alloc; 0; geometry.segment_len()]?),
             token: TokenPlace::new(segment, token),
             parts: HoldBack::new(alloc, segment, 0),
@@ -59,14 +59,18 @@ fn blank_token(alloc: Global, segment: u32, pages: u32) -> Result<Token, AllocEr
 }
 
 // The slots of all segments at a node.
-fn blank_slots(alloc: Global, geometry: &Geometry, node: u16) -> Result<Vec<Slot>, AllocError>
+fn blank_slots(
+    alloc: Global,
+    geometry: &Geometry,
+    node: u16,
+) -> Result<Vec<SegmentCopy>, AllocError>
     ensures count { IfOk result (λ slots. vec_len slots ≡ geometry.now.segments) }
     ensures slots { IfOk result (λ slots. AreOfSegments geometry.now slots.items) }
     ensures stand { IfOk result (λ slots. StandAt geometry.now node slots.items) }
 {
     let mut slots = Vec::with_capacity(alloc, geometry.segments as usize)?;
     for before in 0..geometry.segments {
-        let slot = Slot::blank(alloc, geometry, node, before + 1)?;
+        let slot = SegmentCopy::blank(alloc, geometry, node, before + 1)?;
         slots.push(slot)?;
     }
     Ok(slots)
@@ -86,13 +90,13 @@ impl Desk {
     }
 }
 
-impl<D: Area + Drop> Node<D> {
+impl<D: Area + Drop> NodeState<D> {
     /// A node without its log. It takes memory for its desk and for a group of as many words as the log has.
     pub(crate) fn blank(
         alloc: Global,
         geometry: &Geometry,
         node: u16,
-    ) -> Result<Node<D>, AllocError>
+    ) -> Result<NodeState<D>, AllocError>
         ensures { IfOk result (IsBlankNode D.Area geometry.now node) }
     {
         let desk = Desk::blank(alloc, geometry, node)?;
@@ -108,7 +112,7 @@ impl<D: Area + Drop> Node<D> {
             round: 0,
         };
         let known = KnownClean::new();
-        Ok(Node {
+        Ok(NodeState {
             desk,
             journal,
             known,

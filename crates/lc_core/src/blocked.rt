@@ -1,15 +1,15 @@
 //! Which pages a truncation cannot write, since a transaction is at work on them.
 ghost use Rattle.std.specs.Prelude.{◌≡◌, ◌≤◌, ◌-◌, ◌↔◌, IsTrue, slice_get};
 ghost use Rattle.lc_core.specs.Truncating.{HasBlocked, HasBlockedIn, HasOpenOn, IsBlocked, newer_at, newer_in, newer_of, sizes_of, under_way_at, under_way_in, under_way_of};
-ghost use Rattle.lc_core.specs.declared.phase.Phase.TheVariants.{Up as IsUp};
+ghost use Rattle.lc_core.specs.declared.world_phase.WorldPhase.TheVariants.{Up as IsUp};
 
-use crate::node::Node;
+use crate::node_state::NodeState;
 use crate::page_state::PageState;
 use crate::pages::Pages;
-use crate::phase::Phase;
-use crate::slot::Slot;
+use crate::segment_copy::SegmentCopy;
 use crate::up::Up;
 use crate::world::World;
+use crate::world_phase::WorldPhase;
 use lc_disk::Area;
 
 impl<D: Area + Drop> World<D> {
@@ -46,7 +46,7 @@ impl<D: Area + Drop> World<D> {
         ensures { IsTrue result ↔ IsBlocked D.Area self.now.phase node segment page }
     {
         match &self.phase {
-            Phase::Up(up) => up.is_blocked(node, segment, page),
+            WorldPhase::Up(up) => up.is_blocked(node, segment, page),
             _ => false,
         }
     }
@@ -96,7 +96,7 @@ impl PageState {
     }
 }
 
-impl<D: Area + Drop> Node<D> {
+impl<D: Area + Drop> NodeState<D> {
     // Whether the segment's token stands here, and the page was changed under a greater number than the disk has after
     // that write.
     fn is_newer(&self, segment: u32, page: u32, under_way: Option<u64>) -> bool
@@ -110,7 +110,7 @@ impl<D: Area + Drop> Node<D> {
     }
 }
 
-impl Slot {
+impl SegmentCopy {
     fn is_newer(&self, page: u32, under_way: Option<u64>) -> bool
         ensures { result ≡ newer_of page under_way self.now.token.token }
     {

@@ -6,7 +6,7 @@ ghost use Rattle.lc_core.specs.ReadAreas.{AreWhole};
 ghost use Rattle.lc_core.specs.Readings.{FailsIn, PassesIn, tests_of};
 ghost use Rattle.lc_rest.specs.declared.adopt_fault.AdoptFault.TheVariants.{DeviceFault as Failed, Mismatch};
 ghost use Rattle.lc_core.specs.declared.node_piece.NodePiece.{NodePiece as TheNode};
-ghost use Rattle.lc_rest.specs.declared.part.Part.{Part as ThePart};
+ghost use Rattle.lc_rest.specs.declared.cluster_part.ClusterPart.{ClusterPart as ThePart};
 ghost use Rattle.lc_core.specs.declared.segment_piece.SegmentPiece.{SegmentPiece as ThePiece};
 
 use crate::node_images::NodeImages;
@@ -14,7 +14,7 @@ use crate::node_piece::NodePiece;
 use crate::read_parts::ReadParts;
 use crate::segment_pieces::SegmentPieces;
 use lc_disk::Area;
-use lc_rest::{AdoptFault, Part};
+use lc_rest::{AdoptFault, ClusterPart};
 use std::alloc::Global;
 
 impl ReadParts {
@@ -40,19 +40,19 @@ impl ReadParts {
         ensures device { result ≡ Err Failed → ⊥ }
     {
         if let Some(node) = self.foreign_node(pieces) {
-            return Err(AdoptFault::Mismatch(Part::Log(node)));
+            return Err(AdoptFault::Mismatch(ClusterPart::Log(node)));
         }
         let numbers = match self.test_tokens(alloc)? {
             Ok(numbers) => numbers,
-            Err(segment) => return Err(AdoptFault::Mismatch(Part::Token(segment))),
+            Err(segment) => return Err(AdoptFault::Mismatch(ClusterPart::Token(segment))),
         };
         let order = match self.order(alloc, numbers.as_slice())? {
             Ok(order) => order,
-            Err(node) => return Err(AdoptFault::Mismatch(Part::Log(node))),
+            Err(node) => return Err(AdoptFault::Mismatch(ClusterPart::Log(node))),
         };
         match self.test_images(alloc, numbers.as_slice(), order.as_slice(), nodes)? {
             Ok(contents) => Ok(contents),
-            Err(segment) => Err(AdoptFault::Mismatch(Part::Image(segment))),
+            Err(segment) => Err(AdoptFault::Mismatch(ClusterPart::Image(segment))),
         }
     }
 }

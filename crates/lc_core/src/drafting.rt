@@ -3,7 +3,7 @@ ghost use Rattle.std.specs.Prelude.{◌≡◌, ◌-◌, ◌≤◌, Some, length,
 ghost use Rattle.lc_page.specs.PageVector.{entry_at};
 ghost use Rattle.lc_token.specs.declared.token.Token.{Token};
 ghost use Rattle.lc_core.specs.Drafts.{IsDraft, MayDraft, NotesWritten};
-ghost use Rattle.lc_core.specs.declared.slot.Slot.{Slot};
+ghost use Rattle.lc_core.specs.declared.segment_copy.SegmentCopy.{SegmentCopy};
 
 use crate::desk::Desk;
 use crate::showing::page_in;
@@ -16,7 +16,7 @@ impl Desk {
         requires first { 1 ≤ segment }
         requires slot { segment ≤ vec_len self.now.here.slots }
         ensures page { IfSome result (λ write. write.draft.page ≡ page) }
-        ensures drafts { (slot : Slot) (token : Token) → slice_get self.now.here.slots.items (segment - 1) ≡ Some slot → slot.token.token ≡ Some token
+        ensures drafts { (slot : SegmentCopy) (token : Token) → slice_get self.now.here.slots.items (segment - 1) ≡ Some slot → slot.token.token ≡ Some token
             → MayDraft page token slot → MatchOption result (token.seq ≤ (entry_at token.pages page).stable)
             (λ write. IsDraft page token slot write.draft write.state.gate) }
     {

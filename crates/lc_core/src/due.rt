@@ -3,15 +3,15 @@ ghost use Rattle.std.specs.Prelude.{◌≡◌, ◌≤◌, ◌-◌, ◌+◌, ◌*
 ghost use Rattle.lc_page.specs.PageVector.{entry_at, is_dirty};
 ghost use Rattle.lc_core.specs.Truncating.{EachFrom, WritesSegment, begun_at, begun_in, due_in, due_of, is_due, sizes_of};
 ghost use Rattle.lc_core.specs.Truncation.{IsFirstDue, IsNext, WritesAt, calls_left};
-ghost use Rattle.lc_core.specs.declared.phase.Phase.TheVariants.{Up as IsUp};
+ghost use Rattle.lc_core.specs.declared.world_phase.WorldPhase.TheVariants.{Up as IsUp};
 
-use crate::node::Node;
+use crate::node_state::NodeState;
 use crate::page_cursor::PageCursor;
 use crate::pages::Pages;
-use crate::phase::Phase;
-use crate::slot::Slot;
+use crate::segment_copy::SegmentCopy;
 use crate::up::Up;
 use crate::world::World;
+use crate::world_phase::WorldPhase;
 use lc_disk::Area;
 use lc_page::PageVector;
 
@@ -25,7 +25,7 @@ impl<D: Area + Drop> World<D> {
         ensures { result ≡ is_due D.Area self.now.phase node segment page }
     {
         match &self.phase {
-            Phase::Up(up) => up.is_due(node, segment, page),
+            WorldPhase::Up(up) => up.is_due(node, segment, page),
             _ => false,
         }
     }
@@ -37,7 +37,7 @@ impl<D: Area + Drop> World<D> {
         ensures few_pages { result.1 ≤ 1024 }
     {
         match &self.phase {
-            Phase::Up(up) => (up.running.geometry.segments, up.running.geometry.pages),
+            WorldPhase::Up(up) => (up.running.geometry.segments, up.running.geometry.pages),
             _ => (0, 0),
         }
     }
@@ -138,7 +138,7 @@ impl<D: Area> Pages<D> {
     }
 }
 
-impl<D: Area + Drop> Node<D> {
+impl<D: Area + Drop> NodeState<D> {
     fn is_due(&self, segment: u32, page: u32, begun: bool) -> bool
         requires first { 1 ≤ segment }
         ensures { result ≡ due_in page begun (slice_get self.now.desk.here.slots.items (segment - 1)) }
@@ -150,7 +150,7 @@ impl<D: Area + Drop> Node<D> {
     }
 }
 
-impl Slot {
+impl SegmentCopy {
     fn is_due(&self, page: u32, begun: bool) -> bool
         ensures { result ≡ due_of page begun self.now.token.token }
     {

@@ -7,7 +7,7 @@ ghost use Rattle.lc_core.specs.NodeSteps.{StepsNode};
 
 use crate::Reply;
 use crate::call_fault::CallFault;
-use crate::node::Node;
+use crate::node_state::NodeState;
 use crate::placement::Placement;
 use crate::reply_values::{done, placement};
 use crate::running::Running;
@@ -15,7 +15,7 @@ use crate::up::Up;
 use lc_disk::Area;
 use std::alloc::{AllocError, Global};
 
-impl<D: Area + Drop> Node<D> {
+impl<D: Area + Drop> NodeState<D> {
     /// One of its threads drops its transaction. It takes no memory.
     pub(crate) fn abort(&mut self, thread: u16) -> Reply
         requires seat { thread < vec_len self.old.desk.seats }

@@ -9,8 +9,8 @@ ghost use Rattle.lc_core.specs.Blank.{AreFreshSlots, AreOfSegments, IsBlankDesk,
 ghost use Rattle.lc_core.specs.Fresh.{IsFreshSlot, fresh_token, segment_bytes};
 
 use crate::desk::Desk;
-use crate::node::Node;
-use crate::slot::Slot;
+use crate::node_state::NodeState;
+use crate::segment_copy::SegmentCopy;
 use lc_disk::Area;
 use lc_page::PageVector;
 use lc_record::PAGE;
@@ -19,7 +19,7 @@ use lc_token::{HoldBack, Token, TokenPlace};
 use lc_tx::Image;
 use std::alloc::Global;
 
-impl Slot {
+impl SegmentCopy {
     /// The slot of a segment, from 1, gets its pages and its number, and so does the token where it stands here. It takes
     /// no memory.
     pub(crate) fn fill<D: Area>(&mut self, alloc: Global, segment: u32, recovered: &Recovered<D>)
@@ -82,7 +82,7 @@ fn fill_pages<D: Area>(pages: &mut PageVector, segment: u32, recovered: &Recover
 }
 
 // Each slot of a node gets what the recovery has made of its segment.
-fn fill_slots<D: Area>(slots: &mut [Slot], alloc: Global, recovered: &Recovered<D>)
+fn fill_slots<D: Area>(slots: &mut [SegmentCopy], alloc: Global, recovered: &Recovered<D>)
     requires count { length slots.old ≡ recovered.now.geometry.segments }
     requires slots { AreOfSegments recovered.now.geometry slots.old }
     ensures slots { AreOfSegments recovered.now.geometry slots.new }
@@ -106,7 +106,7 @@ impl Desk {
     }
 }
 
-impl<D: Area + Drop> Node<D> {
+impl<D: Area + Drop> NodeState<D> {
     ghost use Rattle.lc_core.specs.Blank.{IsBlankNode, IsFilledNode};
 
     /// The slots of a node, where no thread does anything, get what the recovery has made of their segments, and the node sees

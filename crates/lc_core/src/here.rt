@@ -5,14 +5,14 @@ ghost use Rattle.lc_range.specs.RangeSet.{IsCanonical};
 ghost use Rattle.lc_core.specs.Counts.{CountsAll};
 ghost use Rattle.lc_core.specs.Here.{the_images, same_numbers, own_image, other_image, beside_itself, beside_image, beside_chained};
 
-use crate::slot::Slot;
+use crate::segment_copy::SegmentCopy;
 use lc_range::Range;
 use lc_tx::{Image, Images};
 
 /// All segments at a node; segment 1 stands first.
 #[derive(Drop)]
 pub(crate) struct Here {
-    pub(crate) slots: Vec<Slot>,
+    pub(crate) slots: Vec<SegmentCopy>,
     /// An image of no segment: what contracts say where there is none.
     pub(crate) spare: Image,
 }

@@ -33,7 +33,7 @@ ghost use Rattle.lc_core.specs.Observed.{observed};
 ghost use Rattle.lc_core.specs.Runs.{RunsOn};
 ghost use Rattle.lc_core.specs.Settled.{Settled};
 ghost use Rattle.lc_core.specs.Journal.{FitsLog};
-ghost use Rattle.lc_core.specs.Records.{Kept};
+ghost use Rattle.lc_core.specs.Records.{KeptRecords};
 ghost use Rattle.lc_core.specs.Seats.{AllRun};
 ghost use Rattle.lc_core.specs.declared.log.Log.{Log as Between};
 ghost use Rattle.lc_core.specs.Pages.{FitsArea, FitsPages, IsStored};
@@ -54,8 +54,8 @@ ghost use Rattle.lc_core.specs.Lives.{AnswersOne, FitsLife, Life, Told};
 ghost use Rattle.lc_core.specs.Recovering.{ComesUp};
 ghost use Rattle.lc_core.specs.Stepping.{FollowsStep, TellsWriting, is_plain};
 ghost use Rattle.lc_core.specs.World.{BeginsAnew, FitsPhase, FitsWorld, Leads, LeadsTo};
-ghost use Rattle.lc_core.specs.declared.phase.Phase.{Phase as Standing};
-ghost use Rattle.lc_core.specs.declared.phase.Phase.TheVariants.{Down as IsDownNow, Up as IsUpNow};
+ghost use Rattle.lc_core.specs.declared.world_phase.WorldPhase.{WorldPhase as Standing};
+ghost use Rattle.lc_core.specs.declared.world_phase.WorldPhase.TheVariants.{Down as IsDownNow, Up as IsUpNow};
 
 use crate::{Event, Refusal, Reply};
 use lc_disk::Area;
@@ -132,7 +132,7 @@ pub(crate) fn other_desks()
 /// And their journals.
 pub(crate) fn other_journals<D: Area>()
     ensures stays { (m : Setting) (node other : ℕ) (s : State) (x : Numbers) (after : State) (y : Numbers) (log : Between D D.Area)
-        (kept : Kept) (dropped trimmed taken acked : ℕ) → (other ≡ node → ⊥) → BesideLogs m node s x after y →
+        (kept : KeptRecords) (dropped trimmed taken acked : ℕ) → (other ≡ node → ⊥) → BesideLogs m node s x after y →
         FitsLog D.Area m other log kept dropped trimmed taken acked s x →
         FitsLog D.Area m other log kept dropped trimmed taken acked after y }
     ensures open { (m : Setting) (node : ℕ) (s after : State) (x : Numbers) → SameButOpen node s after →

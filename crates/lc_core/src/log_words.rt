@@ -7,16 +7,16 @@ ghost use Rattle.lc_core.specs.Faults.{SameDevices};
 ghost use Rattle.lc_core.specs.Geometries.{phase_geometry};
 ghost use Rattle.lc_core.specs.Log.{area_of};
 ghost use Rattle.lc_core.specs.LogWords.{IsLogRead, IsNodeKept, IsNodeRead, IsRead, ReadsLog, ReadsNone, StandsOn, has_failed, log_area, log_in};
-ghost use Rattle.lc_core.specs.declared.node.Node.{Node as TheNode};
-ghost use Rattle.lc_core.specs.declared.phase.Phase.TheVariants.{Down, Taken, Up};
+ghost use Rattle.lc_core.specs.declared.node_state.NodeState.{NodeState as TheNode};
+ghost use Rattle.lc_core.specs.declared.world_phase.WorldPhase.TheVariants.{Down, Taken, Up};
 ghost use Rattle.lc_core.specs.declared.show_fault.ShowFault.TheVariants.{Unknown};
 ghost use Rattle.lc_core.specs.declared.up.Up.{Up as Rising};
 
 use crate::ShowFault;
 use crate::log::Log;
-use crate::phase::Phase;
 use crate::running::Running;
 use crate::world::World;
+use crate::world_phase::WorldPhase;
 use lc_disk::Area;
 use lc_log::{text_len, words_in};
 use lc_recover::Recovery;
@@ -49,7 +49,7 @@ impl<D: Area + Drop> World<D> {
     }
 }
 
-impl<D: Area + Drop> Phase<D> {
+impl<D: Area + Drop> WorldPhase<D> {
     // All bytes of the log of a node.
     fn log_bytes(&mut self, alloc: Global, node: u16) -> Result<Vec<u8>, ShowFault>
         ensures unknown { log_area D.Area self.old node ≡ None → (result ≡ Err Unknown) × ReadsNone D.Area node self.old self.new }
@@ -65,9 +65,9 @@ impl<D: Area + Drop> Phase<D> {
         ensures taken { self.new ≡ Taken → self.old ≡ Taken }
     {
         match self {
-            Phase::Down(recovery) => log_bytes_of(recovery, alloc, node),
-            Phase::Up(up) => up.running.log_bytes(alloc, node),
-            Phase::Taken => Err(ShowFault::Unknown),
+            WorldPhase::Down(recovery) => log_bytes_of(recovery, alloc, node),
+            WorldPhase::Up(up) => up.running.log_bytes(alloc, node),
+            WorldPhase::Taken => Err(ShowFault::Unknown),
         }
     }
 }

@@ -3,12 +3,12 @@ ghost use Rattle.std.specs.Prelude.{◌≡◌, ◌≤◌, false, vec_len};
 ghost use Rattle.lc_core.specs.Log.{is_failed};
 ghost use Rattle.lc_core.specs.NodeSteps.{IsOf, StepsNode};
 
-use crate::node::Node;
+use crate::node_state::NodeState;
 use crate::{Event, Reply};
 use lc_disk::Area;
 use std::alloc::{AllocError, Global};
 
-impl<D: Area + Drop> Node<D> {
+impl<D: Area + Drop> NodeState<D> {
     /// An event of one of this node's threads, or a step of a flush or a reset of its log, whose device has not failed.
     pub(crate) fn step(
         &mut self,

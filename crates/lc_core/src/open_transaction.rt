@@ -4,9 +4,9 @@ ghost use Rattle.lc_core.specs.OpenTransactions.{open_at, open_in_node, open_tra
 ghost use Rattle.lc_core.specs.Seat.{open_in};
 
 use crate::desk::Desk;
-use crate::phase::Phase;
 use crate::up::Up;
 use crate::world::World;
+use crate::world_phase::WorldPhase;
 use lc_disk::Area;
 use lc_tx::Tx;
 
@@ -17,7 +17,7 @@ impl<D: Area + Drop> World<D> {
         ensures { open_in result ≡ open_transaction D.Area self.now.phase node thread }
     {
         match &self.phase {
-            Phase::Up(up) => up.open_transaction(node, thread),
+            WorldPhase::Up(up) => up.open_transaction(node, thread),
             _ => None,
         }
     }
@@ -27,7 +27,7 @@ impl<D: Area + Drop> World<D> {
         ensures { result ≡ threads_of D.Area self.now.phase }
     {
         match &self.phase {
-            Phase::Up(up) => up.running.geometry.threads,
+            WorldPhase::Up(up) => up.running.geometry.threads,
             _ => 0,
         }
     }

@@ -7,17 +7,17 @@ ghost use Rattle.lc_core.specs.Log.{area_of};
 ghost use Rattle.lc_core.specs.MayReply.{or_fault, refuses_common};
 ghost use Rattle.lc_model.specs.Machine.{may_page};
 ghost use Rattle.lc_core.specs.declared.page_state.PageState.TheVariants.{AtRest as Rests, UnderWay as IsUnderWay};
-ghost use Rattle.lc_core.specs.declared.slot.Slot.{Slot};
+ghost use Rattle.lc_core.specs.declared.segment_copy.SegmentCopy.{SegmentCopy};
 
-use crate::node::Node;
+use crate::node_state::NodeState;
 use crate::page_progress::PageProgress;
 use crate::page_state::PageState;
 use crate::pages::Pages;
 use crate::{Refusal, Reply};
 use lc_disk::Area;
 
-impl<D: Area + Drop> Node<D> {
-    ghost use Rattle.lc_core.specs.Node.{HasSameRoom};
+impl<D: Area + Drop> NodeState<D> {
+    ghost use Rattle.lc_core.specs.NodeState.{HasSameRoom};
     ghost use Rattle.lc_core.specs.Paging.{FollowsPage};
 
     /// One of the six device calls of a write of a page of a segment, from 1, where the segment's token stands here. The first
@@ -53,7 +53,7 @@ impl<D: Area + Drop> Node<D> {
         requires first { 1 ≤ segment }
         requires slot { segment ≤ vec_len self.old.desk.here.slots }
         requires page { page < vec_len pages.old.writes }
-        requires here { (slot : Slot) → slice_get self.old.desk.here.slots.items (segment - 1) ≡ Some slot → IsSome slot.token.token }
+        requires here { (slot : SegmentCopy) → slice_get self.old.desk.here.slots.items (segment - 1) ≡ Some slot → IsSome slot.token.token }
         requires rests { slice_get pages.old.writes.items page ≡ Some Rests }
         ensures follows { FollowsPage D.Area segment page self.old pages.old result self.new pages.new }
         ensures names { or_fault may_page result ≡ true }
@@ -86,7 +86,7 @@ impl<D: Area + Drop> Node<D> {
         requires first { 1 ≤ segment }
         requires slot { segment ≤ vec_len self.old.desk.here.slots }
         requires page { page < vec_len pages.old.writes }
-        requires here { (slot : Slot) → slice_get self.old.desk.here.slots.items (segment - 1) ≡ Some slot → IsSome slot.token.token }
+        requires here { (slot : SegmentCopy) → slice_get self.old.desk.here.slots.items (segment - 1) ≡ Some slot → IsSome slot.token.token }
         requires begun { (write : Writing) × (slice_get pages.old.writes.items page ≡ Some (IsUnderWay write)) }
         ensures follows { FollowsPage D.Area segment page self.old pages.old result self.new pages.new }
         ensures names { or_fault may_page result ≡ true }

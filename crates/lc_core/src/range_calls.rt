@@ -5,13 +5,13 @@ ghost use Rattle.lc_core.specs.Layers.{TriesRunning, TriesUp};
 ghost use Rattle.lc_core.specs.NodeSteps.{StepsNode};
 
 use crate::Reply;
-use crate::node::Node;
+use crate::node_state::NodeState;
 use crate::running::Running;
 use crate::up::Up;
 use lc_disk::Area;
 use std::alloc::AllocError;
 
-impl<D: Area + Drop> Node<D> {
+impl<D: Area + Drop> NodeState<D> {
     /// One of its threads sets a range. It takes memory only for positions that are not set yet.
     pub(crate) fn set_range(
         &mut self,

@@ -7,7 +7,7 @@ ghost use Rattle.lc_core.specs.Pieces.{AreNodePieces};
 ghost use Rattle.lc_core.specs.ReadAreas.{AreWhole};
 ghost use Rattle.lc_core.specs.Readings.{FailsIn, PassesIn};
 ghost use Rattle.lc_rest.specs.declared.adopt_fault.AdoptFault.TheVariants.{DeviceFault as Failed, Mismatch};
-ghost use Rattle.lc_rest.specs.declared.part.Part.{Part as ThePart};
+ghost use Rattle.lc_rest.specs.declared.cluster_part.ClusterPart.{ClusterPart as ThePart};
 
 use crate::node_images::NodeImages;
 use crate::node_piece::NodePiece;
@@ -15,9 +15,9 @@ use crate::read_nodes::ReadNodes;
 use crate::read_parts::ReadParts;
 use crate::read_segments::ReadSegments;
 use crate::reading_areas::{read_areas, read_pages};
-use crate::room::Room;
 use crate::standing::standing;
 use crate::up::Up;
+use crate::world_room::WorldRoom;
 use lc_disk::Area;
 use lc_rest::{AdoptFault, Parts};
 use std::alloc::Global;
@@ -94,7 +94,7 @@ impl<D: Area + Drop> ReadCluster<D> {
     /// # Errors
     ///
     /// `Mismatch` with the part whose test fails first; `NoMemory`.
-    pub(crate) fn build(self, alloc: Global, room: Room<D>) -> Result<Up<D>, AdoptFault>
+    pub(crate) fn build(self, alloc: Global, room: WorldRoom<D>) -> Result<Up<D>, AdoptFault>
         requires geometry { self.read.geometry ≡ room.geometry }
         requires whole { AreWhole self.read.logs.items }
         ensures built { IfOk result (λ up. (turns : List ℕ) × PassesIn self.read (knowns_of D.Area self.pieces.items) self.images.items turns × IsBuilt D.Area self turns up) }

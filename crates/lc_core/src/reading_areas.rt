@@ -3,7 +3,7 @@ ghost use Rattle.std.specs.Prelude.{◌≡◌, ◌+◌, Err, IfOk, OnErr, OnOk, 
 ghost use Rattle.lc_core.specs.AsRead.{AreAsRead, FailsAt, IsAsRead};
 ghost use Rattle.lc_core.specs.ReadAreas.{AreAreas, AreStarts};
 ghost use Rattle.lc_rest.specs.declared.adopt_fault.AdoptFault.TheVariants.{DeviceFault as Failed, Mismatch};
-ghost use Rattle.lc_rest.specs.declared.part.Part.{Part as ThePart};
+ghost use Rattle.lc_rest.specs.declared.cluster_part.ClusterPart.{ClusterPart as ThePart};
 
 use lc_disk::{Area, DeviceFault};
 use lc_record::Geometry;

@@ -3,7 +3,7 @@ ghost use Rattle.std.specs.Prelude.{◌≡◌, ◌+◌, ◌-◌, ◌<◌, ◌≤
 ghost use Rattle.lc_model.specs.History.{leading};
 ghost use Rattle.lc_core.specs.Records.{Lie, Spelled, all_words, closed_from, count_of, front_of, span_of, places_of, shifted, closed_at};
 
-use crate::place::Place;
+use crate::record_end::RecordEnd;
 use std::alloc::{AllocError, Global};
 use std::marker::Model;
 
@@ -16,7 +16,7 @@ const MOST_RECORDS: u64 = (1 << 63) - 1;
 #[derive(Drop)]
 pub(crate) struct Records {
     words: Vec<u64>,
-    places: Vec<Place>,
+    places: Vec<RecordEnd>,
     // The number of the record at the first place.
     first: u64,
     // How many of the places, from the first, are of records that were dropped.
@@ -27,9 +27,9 @@ pub(crate) struct Records {
 
 impl Model for Records {
     ghost use Rattle.std.specs.Prelude.{◌+◌, drop};
-    ghost use Rattle.lc_core.specs.Records.{Kept, spelled, AreKept};
+    ghost use Rattle.lc_core.specs.Records.{KeptRecords, spelled, AreKept};
 
-    ghost Value = { Kept };
+    ghost Value = { KeptRecords };
 
     ghost view = { λ r. record { before = r.first + r.gone; records = drop r.gone (spelled 0 r.words.items r.places.items) } };
 
@@ -65,7 +65,7 @@ impl Records {
     }
 
     /// How many were dropped.
-    pub(crate) fn before(&self) -> u64
+    pub(crate) fn dropped_count(&self) -> u64
         ensures { result ≡ self.now.before }
     {
         self.first + self.gone as u64
@@ -109,7 +109,7 @@ impl Records {
         }
         self.places.reserve(1)?;
         self.words.extend_from_slice(words)?;
-        let place = Place {
+        let place = RecordEnd {
             end: self.words.len(),
             closed: false,
         };
@@ -202,7 +202,7 @@ impl Records {
 }
 
 // The words of the records from one place up to another.
-fn between<'a>(words: &'a [u64], places: &[Place], from: usize, to: usize) -> &'a [u64]
+fn between<'a>(words: &'a [u64], places: &[RecordEnd], from: usize, to: usize) -> &'a [u64]
     requires order { from ≤ to }
     requires within { to ≤ length places.now }
     requires lie { Lie words.now places.now }
@@ -215,7 +215,7 @@ fn between<'a>(words: &'a [u64], places: &[Place], from: usize, to: usize) -> &'
 }
 
 // Where the words begin of the record at this place, or those end of the last.
-fn start_of(places: &[Place], place: usize) -> usize
+fn start_of(places: &[RecordEnd], place: usize) -> usize
     requires { place ≤ length places.now }
     ensures { (rs : List Spelled) → places.now ≡ places_of 0 rs → result ≡ length (all_words (take place rs)) }
 {
@@ -226,7 +226,7 @@ fn start_of(places: &[Place], place: usize) -> usize
 }
 
 // How many places stand in front of the first that is not closed, from so many that do.
-fn leading_from(places: &[Place], known: usize) -> usize
+fn leading_from(places: &[RecordEnd], known: usize) -> usize
     requires within { known ≤ length places.now }
     requires known { known + leading (drop known (map (λ p. p.closed) places.now)) ≡ leading (map (λ p. p.closed) places.now) }
     ensures { result ≡ leading (map (λ p. p.closed) places.now) }
@@ -239,14 +239,14 @@ fn leading_from(places: &[Place], known: usize) -> usize
 }
 
 // How many of the places from this one on are of records that are closed.
-fn closed_among(places: &[Place], from: usize) -> usize
+fn closed_among(places: &[RecordEnd], from: usize) -> usize
     ensures { result ≡ count_by (λ p. p.closed) (drop from places.now) }
 {
     places.iter().skip(from).filter(|p| p.closed).count()
 }
 
 // The places are moved to the front by so many words.
-fn shift(places: &mut [Place], cut: usize)
+fn shift(places: &mut [RecordEnd], cut: usize)
     requires { All (λ p. cut ≤ p.end) places.old }
     ensures { places.new ≡ map (shifted cut) places.old }
 {

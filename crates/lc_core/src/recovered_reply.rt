@@ -15,12 +15,12 @@ pub(crate) fn reply_to(step: Result<Progress, RecoverFault>) -> Result<Reply, Al
     match step {
         Ok(Progress::Stepped(steps)) => Ok(Reply::Stepped(steps)),
         Ok(Progress::Recovered) => Ok(Reply::Recovered),
-        Err(fault) => stopped(fault),
+        Err(fault) => fault_reply(fault),
     }
 }
 
 /// The reply to why a recovery has stopped.
-pub(crate) fn stopped(fault: RecoverFault) -> Result<Reply, AllocError>
+pub(crate) fn fault_reply(fault: RecoverFault) -> Result<Reply, AllocError>
     ensures { MatchOption (refusal_to fault) (IsErr result) (λ refusal. result ≡ Ok (Refused refusal)) }
 {
     match fault.refusal() {

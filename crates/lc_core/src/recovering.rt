@@ -3,12 +3,12 @@ ghost use Rattle.std.specs.Prelude.{◌≡◌, false, true, IfOk, OnErr};
 ghost use Rattle.lc_model.specs.declared.event.Event.TheVariants.{RecoverStep};
 ghost use Rattle.lc_recover.specs.Reads.{HaveLengths};
 ghost use Rattle.lc_recover.specs.Recovery.{Recovering, IsDone};
-ghost use Rattle.lc_core.specs.declared.phase.Phase.TheVariants.{Down};
+ghost use Rattle.lc_core.specs.declared.world_phase.WorldPhase.TheVariants.{Down};
 
-use crate::phase::Phase;
-use crate::recovered_reply::{reply_to, stopped};
-use crate::room::Room;
+use crate::recovered_reply::{fault_reply, reply_to};
 use crate::world::World;
+use crate::world_phase::WorldPhase;
+use crate::world_room::WorldRoom;
 use crate::{Refusal, Reply};
 use lc_disk::Area;
 use std::alloc::{AllocError, Global};
@@ -42,34 +42,34 @@ impl<D: Area + Drop> World<D> {
         ensures names { IfOk result (λ reply. may_recover reply ≡ true) }
         ensures same { OnErr result (self.new.phase ≡ self.old.phase) }
     {
-        let Phase::Down(recovery) = &mut self.phase else {
+        let WorldPhase::Down(recovery) = &mut self.phase else {
             return Ok(Reply::Refused(Refusal::OutOfTurn));
         };
         if !recovery.is_last() {
             return reply_to(recovery.step(alloc));
         }
-        let room = Room::new(alloc, recovery.geometry())?;
+        let room = WorldRoom::new(alloc, recovery.geometry())?;
         if let Err(fault) = recovery.step(alloc) {
-            return stopped(fault);
+            return fault_reply(fault);
         }
-        self.phase = mem::replace(&mut self.phase, Phase::Taken).risen(alloc, room);
+        self.phase = mem::replace(&mut self.phase, WorldPhase::Taken).risen(alloc, room);
         Ok(Reply::Recovered)
     }
 }
 
-impl<D: Area + Drop> Phase<D> {
+impl<D: Area + Drop> WorldPhase<D> {
     ghost use Rattle.lc_core.specs.Recovering.{HasComeUp};
 
     // All is recovered: the nodes come up in this room. It takes no memory.
-    fn risen(self, alloc: Global, room: Room<D>) -> Phase<D>
+    fn risen(self, alloc: Global, room: WorldRoom<D>) -> WorldPhase<D>
         requires done { (r : Recovering D) → self ≡ Down r → IsDone r }
         requires geometry { (r : Recovering D) → self ≡ Down r → r.geometry ≡ room.geometry }
         requires lengths { (r : Recovering D) → self ≡ Down r → HaveLengths D.Area r.geometry r.areas }
         ensures { (r : Recovering D) → self ≡ Down r → HasComeUp D.Area r result }
     {
-        let Phase::Down(recovery) = self else {
+        let WorldPhase::Down(recovery) = self else {
             return self;
         };
-        Phase::Up(room.furnish(alloc, recovery.finish()))
+        WorldPhase::Up(room.furnish(alloc, recovery.finish()))
     }
 }

@@ -6,9 +6,9 @@ ghost use Rattle.lc_model.specs.declared.event.Event.{Event as Asked};
 ghost use Rattle.lc_core.specs.Answered.{StandsFor, done, emptied, flushed, is_done_or_not, place_taken, range_set, received, trimmed, written};
 
 use crate::call_fault::CallFault;
+use crate::delivery_outcome::DeliveryOutcome;
 use crate::flush_progress::FlushProgress;
 use crate::placement::Placement;
-use crate::receipt::Receipt;
 use crate::reset_progress::ResetProgress;
 use crate::write_progress::WriteProgress;
 use crate::{Refusal, Reply};
@@ -48,14 +48,14 @@ pub(crate) fn placement(reply: &Reply) -> Result<Placement, CallFault>
 }
 
 /// Of a record that is delivered.
-pub(crate) fn receipt(reply: &Reply) -> Result<Receipt, CallFault>
+pub(crate) fn receipt(reply: &Reply) -> Result<DeliveryOutcome, CallFault>
     ensures { (sender number segment to : ℕ) → StandsFor (Deliver sender number segment to) (received result) reply.now }
 {
     match reply {
         Reply::Refused(refusal) => Err(CallFault::Refused(*refusal)),
-        Reply::Applied(number) => Ok(Receipt::Applied(*number)),
-        Reply::HeldBack => Ok(Receipt::HeldBack),
-        _ => Ok(Receipt::Ignored),
+        Reply::Applied(number) => Ok(DeliveryOutcome::Applied(*number)),
+        Reply::HeldBack => Ok(DeliveryOutcome::HeldBack),
+        _ => Ok(DeliveryOutcome::Ignored),
     }
 }
 

@@ -2,8 +2,8 @@
 ghost use Rattle.std.specs.Prelude.{◌≡◌};
 ghost use Rattle.lc_core.specs.Rounds.{ShowsRound, round_in};
 
-use crate::phase::Phase;
 use crate::world::World;
+use crate::world_phase::WorldPhase;
 use lc_disk::Area;
 
 impl<D: Area + Drop> World<D> {
@@ -13,7 +13,7 @@ impl<D: Area + Drop> World<D> {
         ensures stands { result ≡ round_in D.Area self.now.phase node }
         ensures shows { ShowsRound D.Area self.now node result }
     {
-        let Phase::Up(up) = &self.phase else {
+        let WorldPhase::Up(up) = &self.phase else {
             return 0;
         };
         match up.running.nodes.get(node as usize) {

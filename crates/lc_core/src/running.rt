@@ -2,7 +2,7 @@
 ghost use Rattle.std.specs.Prelude.{◌≡◌, ◌≤◌, vec_len};
 ghost use Rattle.lc_core.specs.Nodes.{AreNamed, AreWhole};
 
-use crate::node::Node;
+use crate::node_state::NodeState;
 use lc_disk::Area;
 use lc_record::Geometry;
 use lc_token::Token;
@@ -12,7 +12,7 @@ use lc_token::Token;
 #[derive(Drop)]
 pub(crate) struct Running<D: Area> {
     pub(crate) geometry: Geometry,
-    pub(crate) nodes: Vec<Node<D>>,
+    pub(crate) nodes: Vec<NodeState<D>>,
     pub(crate) travelling: Vec<Option<Token>>,
     ghost few: { geometry.nodes ≤ 8 },
     ghost all_nodes: { vec_len nodes ≡ geometry.nodes },

@@ -4,8 +4,8 @@ ghost use Rattle.lc_core.specs.Showing.{page_of};
 
 use crate::Refusal;
 use crate::named::is_page_of;
-use crate::phase::Phase;
 use crate::world::World;
+use crate::world_phase::WorldPhase;
 use lc_disk::Area;
 use lc_page::PAGE_BYTES;
 
@@ -18,7 +18,7 @@ impl<D: Area + Drop> World<D> {
     pub fn is_up(&self) -> bool
         ensures { result ≡ (observed D.Area self.now).up }
     {
-        matches!(self.phase, Phase::Up(_))
+        matches!(self.phase, WorldPhase::Up(_))
     }
 
     /// The bytes of a page as a node has them, with those of a transaction that is open on it. It takes no memory.
@@ -34,7 +34,7 @@ impl<D: Area + Drop> World<D> {
         ensures shown { OnOk result (ShowsAt (observed D.Area self.now) node segment page) }
         ensures refused { IfErr result (RefusesAt (observed D.Area self.now) node segment page) }
     {
-        let Phase::Up(up) = &self.phase else {
+        let WorldPhase::Up(up) = &self.phase else {
             return Err(Refusal::Down);
         };
         if !is_page_of(&up.running.geometry, node, segment, page) {

@@ -6,10 +6,10 @@ ghost use Rattle.lc_recover.specs.Reads.{area_len, AllMergeTo, AreHonest, HaveLe
 ghost use Rattle.lc_recover.specs.Recovery.{begun};
 ghost use Rattle.lc_recover.specs.declared.fault.RecoverFault.TheVariants.{BadGeometry};
 ghost use Rattle.lc_core.specs.Numbers.{Numbers};
-ghost use Rattle.lc_core.specs.declared.phase.Phase.TheVariants.{Down};
+ghost use Rattle.lc_core.specs.declared.world_phase.WorldPhase.TheVariants.{Down};
 
-use crate::phase::Phase;
 use crate::world::World;
+use crate::world_phase::WorldPhase;
 use lc_disk::Area;
 use lc_record::Geometry;
 use lc_recover::{RecoverFault, Recovery};
@@ -35,7 +35,7 @@ impl<D: Area + Drop> World<D> {
     {
         let recovery = Recovery::new(geometry, areas)?;
         Ok(World {
-            phase: Phase::Down(recovery),
+            phase: WorldPhase::Down(recovery),
         })
     }
 }

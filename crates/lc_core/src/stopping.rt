@@ -13,16 +13,16 @@ ghost use Rattle.lc_core.specs.Observed.{observed};
 ghost use Rattle.lc_core.specs.Pages.{areas_of};
 ghost use Rattle.lc_core.specs.Stops.{AreLeftBy, HasAreas, IsLeftBy, StopsAll};
 ghost use Rattle.lc_core.specs.World.{FollowsWorld};
-ghost use Rattle.lc_core.specs.declared.node.Node.{Node as TheNode};
-ghost use Rattle.lc_core.specs.declared.phase.Phase.TheVariants.{Taken};
+ghost use Rattle.lc_core.specs.declared.node_state.NodeState.{NodeState as TheNode};
+ghost use Rattle.lc_core.specs.declared.world_phase.WorldPhase.TheVariants.{Taken};
 
 use crate::Reply;
 use crate::log::Log;
-use crate::node::Node;
+use crate::node_state::NodeState;
 use crate::pages::Pages;
-use crate::phase::Phase;
 use crate::up::Up;
 use crate::world::World;
+use crate::world_phase::WorldPhase;
 use lc_disk::{Area, Choice, Stoppable};
 use lc_record::{Geometry, Items};
 use lc_recover::Recovery;
@@ -39,23 +39,23 @@ impl<D: Stoppable + Drop> World<D> {
         ensures counts { phase_failures D.Area self.new.phase ≡ phase_failures D.Area self.old.phase }
         ensures geometry { phase_geometry D.Area self.new.phase ≡ phase_geometry D.Area self.old.phase }
     {
-        self.phase = mem::replace(&mut self.phase, Phase::Taken).stopped(choices);
+        self.phase = mem::replace(&mut self.phase, WorldPhase::Taken).stopped(choices);
         Reply::Down
     }
 }
 
-impl<D: Stoppable + Drop> Phase<D> {
+impl<D: Stoppable + Drop> WorldPhase<D> {
     // Each area is stopped, and a recovery begins.
-    fn stopped(self, choices: &[Items<Choice>]) -> Phase<D>
+    fn stopped(self, choices: &[Items<Choice>]) -> WorldPhase<D>
         ensures stops { StopsAll D.Area self result }
         ensures chosen { IsLeftBy D.Area D.left choices.now self result }
     {
         let Some((geometry, mut areas)) = self.into_areas() else {
-            return Phase::Taken;
+            return WorldPhase::Taken;
         };
         stop_all(areas.as_mut_slice(), choices);
         match Recovery::new(geometry, areas) {
-            Ok(recovery) => Phase::Down(recovery),
+            Ok(recovery) => WorldPhase::Down(recovery),
             Err(_) => unreachable!(),
         }
     }
@@ -95,7 +95,7 @@ impl<D: Area + Drop> World<D> {
     }
 }
 
-impl<D: Area + Drop> Phase<D> {
+impl<D: Area + Drop> WorldPhase<D> {
     // Its areas in the order of the store, and how many there are of each thing.
     fn into_areas(self) -> Option<(Geometry, Vec<D>)>
         ensures areas { IfSome result (λ its. HasAreas D.Area self its.0 its.1.items) }
@@ -103,9 +103,9 @@ impl<D: Area + Drop> Phase<D> {
         ensures none { IfNone result (self ≡ Taken) }
     {
         match self {
-            Phase::Down(recovery) => Some((recovery.geometry(), recovery.areas())),
-            Phase::Up(up) => Some(up.into_areas()),
-            Phase::Taken => None,
+            WorldPhase::Down(recovery) => Some((recovery.geometry(), recovery.areas())),
+            WorldPhase::Up(up) => Some(up.into_areas()),
+            WorldPhase::Taken => None,
         }
     }
 }
@@ -129,7 +129,7 @@ impl<D: Area + Drop> Up<D> {
 }
 
 // The areas of the logs of these nodes, in this room.
-fn log_areas<D: Area + Drop>(mut nodes: Vec<Node<D>>, mut areas: Vec<D>) -> Vec<D>
+fn log_areas<D: Area + Drop>(mut nodes: Vec<NodeState<D>>, mut areas: Vec<D>) -> Vec<D>
     requires empty { areas.items ≡ [] }
     requires room { vec_len nodes ≤ vec_capacity areas }
     requires there { (len : ℕ) × HaveLogs D.Area len nodes.items }
@@ -138,7 +138,7 @@ fn log_areas<D: Area + Drop>(mut nodes: Vec<Node<D>>, mut areas: Vec<D>) -> Vec<
     ensures room { vec_capacity result ≡ vec_capacity areas }
 {
     for _ in 0..nodes.len() {
-        let Node { journal, .. } = nodes.remove(0);
+        let NodeState { journal, .. } = nodes.remove(0);
         match journal.log.into_area() {
             Some(area) => areas.push_reserved(area),
             None => unreachable!(),

@@ -5,7 +5,7 @@ ghost use Rattle.lc_core.specs.Answered.{ComesTo, done, received, trimmed};
 ghost use Rattle.lc_core.specs.Truncating.{StepsTo};
 
 use crate::call_fault::CallFault;
-use crate::receipt::Receipt;
+use crate::delivery_outcome::DeliveryOutcome;
 use crate::reply_values::{receipt, trimmed};
 use crate::world::World;
 use crate::{Event, Refusal};
@@ -50,7 +50,7 @@ impl<D: Stoppable + Drop> World<D> {
         number: u64,
         segment: u32,
         to: u16,
-    ) -> Result<Receipt, CallFault>
+    ) -> Result<DeliveryOutcome, CallFault>
         ensures { ComesTo D.Area self.old (Deliver sender number segment to) (received result) self.new }
     {
         let event = Event::Deliver {

@@ -6,10 +6,10 @@ ghost use Rattle.lc_core.specs.Answered.{ComesTo, Ends, Tries, done, place_taken
 ghost use Rattle.lc_core.specs.Truncating.{StepsTo};
 
 use crate::call_fault::CallFault;
-use crate::phase::Phase;
 use crate::placement::Placement;
 use crate::reply_values::{done, placement, range_set};
 use crate::world::World;
+use crate::world_phase::WorldPhase;
 use crate::{Refusal, Reply};
 use lc_disk::Stoppable;
 use std::alloc::{AllocError, Global};
@@ -39,7 +39,7 @@ impl<D: Stoppable + Drop> World<D> {
         ensures { StepsTo D.Area self.old (Begin node thread writing.now reading.now) result self.new }
     {
         match &mut self.phase {
-            Phase::Up(up) => up.begin(node, thread, writing, reading),
+            WorldPhase::Up(up) => up.begin(node, thread, writing, reading),
             _ => Reply::Refused(Refusal::Down),
         }
     }
@@ -77,7 +77,7 @@ impl<D: Stoppable + Drop> World<D> {
         ensures { Tries D.Area self.old (SetRange node thread segment offset len) result self.new }
     {
         match &mut self.phase {
-            Phase::Up(up) => up.set_range(node, thread, segment, offset, len),
+            WorldPhase::Up(up) => up.set_range(node, thread, segment, offset, len),
             _ => Ok(Reply::Refused(Refusal::Down)),
         }
     }
@@ -114,7 +114,7 @@ impl<D: Stoppable + Drop> World<D> {
         ensures { StepsTo D.Area self.old (Write node thread segment offset bytes.now) result self.new }
     {
         match &mut self.phase {
-            Phase::Up(up) => up.write(node, thread, segment, offset, bytes),
+            WorldPhase::Up(up) => up.write(node, thread, segment, offset, bytes),
             _ => Reply::Refused(Refusal::Down),
         }
     }
@@ -138,7 +138,7 @@ impl<D: Stoppable + Drop> World<D> {
         ensures len { IfOk result (λ bytes. length bytes.now ≡ len) }
     {
         match &self.phase {
-            Phase::Up(up) => up.bytes(node, thread, segment, offset, len),
+            WorldPhase::Up(up) => up.bytes(node, thread, segment, offset, len),
             _ => Err(Refusal::Down),
         }
     }
@@ -188,7 +188,7 @@ impl<D: Stoppable + Drop> World<D> {
         ensures { StepsTo D.Area self.old (Abort node thread) result self.new }
     {
         match &mut self.phase {
-            Phase::Up(up) => up.abort(node, thread),
+            WorldPhase::Up(up) => up.abort(node, thread),
             _ => Reply::Refused(Refusal::Down),
         }
     }
@@ -211,7 +211,7 @@ impl<D: Stoppable + Drop> World<D> {
         ensures { Tries D.Area self.old (Reserve node thread) result self.new }
     {
         match &mut self.phase {
-            Phase::Up(up) => up.reserve(alloc, node, thread),
+            WorldPhase::Up(up) => up.reserve(alloc, node, thread),
             _ => Ok(Reply::Refused(Refusal::Down)),
         }
     }
@@ -232,7 +232,7 @@ impl<D: Stoppable + Drop> World<D> {
         ensures { StepsTo D.Area self.old (Close node thread) result self.new }
     {
         match &mut self.phase {
-            Phase::Up(up) => up.close(node, thread),
+            WorldPhase::Up(up) => up.close(node, thread),
             _ => Reply::Refused(Refusal::Down),
         }
     }
@@ -248,7 +248,7 @@ impl<D: Stoppable + Drop> World<D> {
         ensures { Ends D.Area node thread self.old result self.new }
     {
         match &mut self.phase {
-            Phase::Up(up) => up.end(alloc, node, thread),
+            WorldPhase::Up(up) => up.end(alloc, node, thread),
             _ => Err(CallFault::Refused(Refusal::Down)),
         }
     }

@@ -3,13 +3,13 @@ ghost use Rattle.std.specs.Prelude.{◌+◌, ◌≤◌};
 ghost use Rattle.lc_core.specs.Trimming.{Counts, TellsApplied, TellsAppliedAt, TellsLocks};
 
 use crate::journal::Journal;
-use crate::node::Node;
+use crate::node_state::NodeState;
 use lc_disk::Area;
 use lc_record::{Lock, kept_lock, kept_lock_count};
 
 /// How many of the published records of a journal, from the first, are applied at all of these nodes: at each of them every
 /// segment that the record has a lock on. It takes no memory.
-pub(crate) fn applied_in_front<D: Area + Drop>(nodes: &[Node<D>], journal: &Journal<D>) -> u64
+pub(crate) fn applied_in_front<D: Area + Drop>(nodes: &[NodeState<D>], journal: &Journal<D>) -> u64
     ensures within { journal.now.trimmed + result ≤ journal.now.acked }
     ensures counts { Counts D.Area nodes.now journal.now result }
 {
@@ -22,7 +22,7 @@ pub(crate) fn applied_in_front<D: Area + Drop>(nodes: &[Node<D>], journal: &Jour
 }
 
 // Whether all nodes have applied each segment that the record of these words has a lock on, up to the lock's number.
-fn are_locks_applied<D: Area + Drop>(nodes: &[Node<D>], words: &[u64]) -> bool
+fn are_locks_applied<D: Area + Drop>(nodes: &[NodeState<D>], words: &[u64]) -> bool
     ensures { TellsLocks D.Area nodes.now words.now result }
 {
     for index in 0..kept_lock_count(words) {
@@ -37,7 +37,7 @@ fn are_locks_applied<D: Area + Drop>(nodes: &[Node<D>], words: &[u64]) -> bool
 }
 
 // Whether all nodes have applied a segment up to a lock's number.
-fn is_applied<D: Area + Drop>(nodes: &[Node<D>], lock: Lock) -> bool
+fn is_applied<D: Area + Drop>(nodes: &[NodeState<D>], lock: Lock) -> bool
     ensures { TellsApplied D.Area nodes.now lock result }
 {
     for node in nodes {
@@ -49,7 +49,7 @@ fn is_applied<D: Area + Drop>(nodes: &[Node<D>], lock: Lock) -> bool
 }
 
 // Whether one has.
-fn is_applied_at<D: Area + Drop>(node: &Node<D>, lock: Lock) -> bool
+fn is_applied_at<D: Area + Drop>(node: &NodeState<D>, lock: Lock) -> bool
     ensures { TellsAppliedAt D.Area node.now lock result }
 {
     if lock.segment == 0 {

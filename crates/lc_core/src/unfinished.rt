@@ -5,9 +5,9 @@ ghost use Rattle.lc_core.specs.Unfinished.{begun_in, unfinished_at, unfinished_o
 
 use crate::desk::Desk;
 use crate::journal::Journal;
-use crate::phase::Phase;
 use crate::running::Running;
 use crate::world::World;
+use crate::world_phase::WorldPhase;
 use lc_disk::Area;
 
 /// What a stop of a store now would lose, over all its nodes; both are zero while it is down.
@@ -26,7 +26,7 @@ impl<D: Area + Drop> World<D> {
         ensures { result ≡ unfinished_of D.Area self.now.phase }
     {
         match &self.phase {
-            Phase::Up(up) => up.running.unfinished(),
+            WorldPhase::Up(up) => up.running.unfinished(),
             _ => Unfinished {
                 commits: 0,
                 transactions: 0,

@@ -10,7 +10,7 @@ ghost use Rattle.lc_core.specs.Numbers.{Numbers};
 ghost use Rattle.lc_core.specs.Pages.{FitsPages};
 ghost use Rattle.lc_core.specs.Stepping.{AsksMemory, TellsWriting, works_up};
 ghost use Rattle.lc_core.specs.World.{FollowsUp, StillFitsUp};
-ghost use Rattle.lc_core.specs.declared.phase.Phase.TheVariants.{Up as IsUp};
+ghost use Rattle.lc_core.specs.declared.world_phase.WorldPhase.TheVariants.{Up as IsUp};
 
 use crate::up::Up;
 use crate::{Event, Reply};

@@ -1,9 +1,9 @@
 //! A store of several nodes.
 ghost use Rattle.std.specs.Prelude.{◌≡◌, ◌≢◌};
 ghost use Rattle.lc_recover.specs.Recovery.{Recovering, IsDone};
-ghost use Rattle.lc_core.specs.declared.phase.Phase.TheVariants.{Down, Taken};
+ghost use Rattle.lc_core.specs.declared.world_phase.WorldPhase.TheVariants.{Down, Taken};
 
-use crate::phase::Phase;
+use crate::world_phase::WorldPhase;
 use lc_disk::Area;
 
 /// A store of several nodes, on an area for the log of each node and then an area for each segment. It is down until the
@@ -13,7 +13,7 @@ use lc_disk::Area;
 /// the others up to date (log-based coherency: Feeley et al., OSDI 1994).
 #[derive(Drop)]
 pub struct World<D: Area> {
-    pub(crate) phase: Phase<D>,
+    pub(crate) phase: WorldPhase<D>,
     ghost going: { (r : Recovering D) → phase ≡ Down r → IsDone r → ⊥ },
     ghost there: { phase ≢ Taken },
 }

@@ -5,12 +5,12 @@ ghost use Rattle.lc_core.specs.Layers.{StepsRunning, StepsUp};
 ghost use Rattle.lc_core.specs.NodeSteps.{StepsNode};
 
 use crate::Reply;
-use crate::node::Node;
+use crate::node_state::NodeState;
 use crate::running::Running;
 use crate::up::Up;
 use lc_disk::Area;
 
-impl<D: Area + Drop> Node<D> {
+impl<D: Area + Drop> NodeState<D> {
     /// One of its threads writes. It takes no memory.
     pub(crate) fn write(&mut self, thread: u16, segment: u32, offset: u32, bytes: &[u8]) -> Reply
         requires seat { thread < vec_len self.old.desk.seats }

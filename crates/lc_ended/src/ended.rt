@@ -17,9 +17,9 @@ pub struct Ended {
 
 impl Model for Ended {
     ghost use Rattle.std.specs.Prelude.{◌+◌, ◌-◌, drop, vec_len, vec_capacity};
-    ghost use Rattle.lc_ended.specs.Ended.{Kept, IsKept};
+    ghost use Rattle.lc_ended.specs.Ended.{EndedWords, IsKept};
 
-    ghost Value = { Kept };
+    ghost Value = { EndedWords };
 
     ghost view = { λ e. record { gone = e.moved + e.cut; words = drop e.cut e.words.items; room = vec_capacity e.words - vec_len e.words } };
 

@@ -3,7 +3,7 @@ ghost use Rattle.std.specs.Prelude.{◌≡◌};
 ghost use Rattle.lc_files.specs.declared.folder.FolderFault.TheVariants.{NoMemory};
 
 use crate::copying::{CopyFault, copy_file};
-use crate::file_fault::Place;
+use crate::file_fault::FaultPlace;
 use crate::file_name::FileName;
 use crate::folder::{Folder, FolderFault, MakeFault};
 use crate::new_file::NewFile;
@@ -85,14 +85,14 @@ where
 
     // Copies the file of this name beside it. Of a link that is beside where it leads to.
     fn try_copy(&self, name: FileName) -> Result<(), FolderFault> {
-        let place = Place::Name(StoreName::File(name));
-        let beside = Place::Name(StoreName::Copy(name));
+        let place = FaultPlace::Name(StoreName::File(name));
+        let beside = FaultPlace::Name(StoreName::Copy(name));
         let (file, len) = self.folder.noted(place, self.folder.open_to_copy(name))?;
         let made = self.folder.noted(beside, self.make_copy(name))?;
         match copy_file(&file, &made, len) {
             Ok(()) => Ok(()),
-            Err(CopyFault::Reading(error)) => Err(self.folder.fault_of(place, error)),
-            Err(CopyFault::Writing(error)) => Err(self.folder.fault_of(beside, error)),
+            Err(CopyFault::Reading(error)) => Err(self.folder.note_fault(place, error)),
+            Err(CopyFault::Writing(error)) => Err(self.folder.note_fault(beside, error)),
         }
     }
 
@@ -120,7 +120,7 @@ where
             Ok(()) => Ok(()),
             Err(error) if error.kind() == ErrorKind::AlreadyExists => Err(MakeFault::Exists),
             Err(error) => {
-                let fault = self.folder.fault_of(Place::Name(name), error);
+                let fault = self.folder.note_fault(FaultPlace::Name(name), error);
                 Err(MakeFault::Begun(fault))
             }
         }
@@ -141,11 +141,11 @@ where
 
     fn is_taken(&mut self, name: StoreName) -> Result<bool, FolderFault> {
         self.folder
-            .noted(Place::Name(name), self.folder.is_taken(name))
+            .noted(FaultPlace::Name(name), self.folder.is_taken(name))
     }
 
     fn hold(&mut self) -> Result<(), FolderFault> {
-        self.guard = Some(self.folder.noted(Place::Folder, self.folder.lock())?);
+        self.guard = Some(self.folder.noted(FaultPlace::Folder, self.folder.lock())?);
         Ok(())
     }
 
@@ -156,7 +156,7 @@ where
 
     fn remove(&mut self, name: StoreName) -> Result<(), FolderFault> {
         self.folder
-            .noted(Place::Name(name), self.folder.remove(name))
+            .noted(FaultPlace::Name(name), self.folder.remove(name))
     }
 
     fn copy(&mut self, name: FileName) -> Result<(), FolderFault> {
@@ -165,13 +165,13 @@ where
 
     fn replace(&mut self, name: FileName) -> Result<(), FolderFault> {
         self.folder.noted(
-            Place::Name(StoreName::Copy(name)),
+            FaultPlace::Name(StoreName::Copy(name)),
             self.folder.replace(name),
         )
     }
 
     fn sync(&mut self) -> Result<(), FolderFault> {
-        self.folder.noted(Place::Folder, self.folder.sync())
+        self.folder.noted(FaultPlace::Folder, self.folder.sync())
     }
 }
 

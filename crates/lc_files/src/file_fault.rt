@@ -4,7 +4,7 @@ use std::io;
 
 /// Where in a folder something failed.
 #[derive(Clone, Copy, PartialEq, Eq)]
-pub enum Place {
+pub enum FaultPlace {
     /// The folder itself.
     Folder,
     /// The folder that it stands in.
@@ -17,7 +17,7 @@ pub enum Place {
 #[derive(Clone, Copy)]
 pub struct FileFault {
     /// Where it was met.
-    pub place: Place,
+    pub place: FaultPlace,
     /// Why.
     pub error: io::Error,
 }

@@ -29,7 +29,7 @@ mod watch;
 
 pub use copy_directory::CopyDirectory;
 pub use directory::Directory;
-pub use file_fault::{FileFault, Place};
+pub use file_fault::{FaultPlace, FileFault};
 pub use file_lens::FileLens;
 pub use file_name::FileName;
 pub use folder::{Folder, FolderFault, MakeFault};

@@ -1,6 +1,6 @@
 //! The opening of a store in a folder.
 use crate::directory::Directory;
-use crate::file_fault::Place;
+use crate::file_fault::FaultPlace;
 use crate::file_lens::{FileLens, LOGS, SEGMENTS};
 use crate::file_name::FileName;
 use crate::folder::FolderFault;
@@ -62,7 +62,7 @@ where
     ///
     /// `Failed` where another process has the store open, or the system refused something; `fault` says what, and why.
     pub fn look(&self) -> Result<Look<R>, FolderFault> {
-        let guard = self.noted(Place::Folder, self.lock_shared())?;
+        let guard = self.noted(FaultPlace::Folder, self.lock_shared())?;
         match size_found(self.alloc, self) {
             Ok(geometry) => Ok(Look {
                 found: Ok(geometry),
@@ -100,7 +100,7 @@ where
     /// `Failed` where the mark stands, or the system refused the look; `fault` says what, and why.
     pub fn look_unmarked(&self) -> Result<(), FolderFault> {
         if self.stands(StoreName::Mark)? {
-            return Err(self.fault_of(Place::Name(StoreName::Mark), marked()));
+            return Err(self.note_fault(FaultPlace::Name(StoreName::Mark), marked()));
         }
         Ok(())
     }
@@ -118,20 +118,23 @@ where
     /// `OtherSize` where all areas are those of the geometry, and the file of the size says another. `Failed` where another process has
     /// the store open, or the system refused something; `fault` says what, and why.
     pub fn open(&self, geometry: &Geometry) -> Result<OpenStore<'_, R>, Unopened> {
-        let guard = self.noted(Place::Folder, self.lock())?;
+        let guard = self.noted(FaultPlace::Folder, self.lock())?;
         let areas = self.renewed_areas(geometry)?;
-        if let Some(file) = self.noted(Place::Name(StoreName::Size), self.size_file())? {
-            self.make_stable(Place::Name(StoreName::Size), &file)?;
+        if let Some(file) = self.noted(FaultPlace::Name(StoreName::Size), self.size_file())? {
+            self.make_stable(FaultPlace::Name(StoreName::Size), &file)?;
         }
-        self.make_stable(Place::Folder, &guard)?;
+        self.make_stable(FaultPlace::Folder, &guard)?;
         Ok(OpenStore { areas, guard })
     }
 
     // Syncs the folder, or the file of the size. A sync that fails leaves the mark: the system does not tell of it again.
-    fn make_stable(&self, place: Place, file: &R::File) -> Result<(), FolderFault> {
+    fn make_stable(&self, place: FaultPlace, file: &R::File) -> Result<(), FolderFault> {
         let synced = file.sync_all();
         if synced.is_err() {
-            self.mark(&self.noted(Place::Name(StoreName::Mark), self.path_of(StoreName::Mark))?);
+            self.mark(&self.noted(
+                FaultPlace::Name(StoreName::Mark),
+                self.path_of(StoreName::Mark),
+            )?);
         }
         self.noted(place, synced)
     }
@@ -191,7 +194,7 @@ where
         name: FileName,
         access: Access,
     ) -> Result<(), FolderFault> {
-        let place = Place::Name(StoreName::File(name));
+        let place = FaultPlace::Name(StoreName::File(name));
         let area = self.noted(place, self.open_area(name, access))?;
         areas.push(area).map_err(AllocError::from)?;
         Ok(())
@@ -228,7 +231,7 @@ where
     ghost honest = { λ _. false };
 
     fn stated(&self) -> Result<Option<Vec<u8>>, FolderFault> {
-        self.noted(Place::Name(StoreName::Size), self.read_size())
+        self.noted(FaultPlace::Name(StoreName::Size), self.read_size())
     }
 
     fn file_lens(&self) -> Result<FileLens, FolderFault> {
@@ -246,7 +249,7 @@ where
     }
 
     fn says_no_size(&self) -> FolderFault {
-        self.fault_of(Place::Name(StoreName::Size), no_size())
+        self.note_fault(FaultPlace::Name(StoreName::Size), no_size())
     }
 
     fn says_other_size(&self, stated: &Geometry) {
@@ -264,7 +267,7 @@ where
     R::File: HeldFile,
 {
     fn noted_len(&self, name: FileName) -> Result<Option<u64>, FolderFault> {
-        self.noted(Place::Name(StoreName::File(name)), self.len_of(name))
+        self.noted(FaultPlace::Name(StoreName::File(name)), self.len_of(name))
     }
 
     // The first name of a store's file above those of the geometry that is taken.
@@ -286,7 +289,7 @@ where
 
     // Whether something stands under this name.
     fn stands(&self, name: StoreName) -> Result<bool, FolderFault> {
-        self.noted(Place::Name(name), self.is_taken(name))
+        self.noted(FaultPlace::Name(name), self.is_taken(name))
     }
 }
 

@@ -2,7 +2,7 @@
 ghost use Rattle.std.specs.Prelude.{◌≡◌, true};
 ghost use Rattle.std.specs.Fs.{asks_create_new, asks_write};
 
-use crate::file_fault::{FileFault, Place};
+use crate::file_fault::{FaultPlace, FileFault};
 use crate::file_name::FileName;
 use crate::folder::FolderFault;
 use crate::lock_holder::{LockHolder, lock_holder};
@@ -72,7 +72,7 @@ impl<'a, R> StoreFolder<'a, R> {
     }
 
     // Notes what failed, unless something did before.
-    pub(crate) fn note(&self, place: Place, error: Error) {
+    pub(crate) fn note(&self, place: FaultPlace, error: Error) {
         let _ = self.fault.try_set(FileFault { place, error });
     }
 
@@ -87,15 +87,19 @@ impl<'a, R> StoreFolder<'a, R> {
     }
 
     // What a call gave; its error is noted, unless there was no memory.
-    pub(crate) fn noted<T>(&self, place: Place, given: io::Result<T>) -> Result<T, FolderFault> {
+    pub(crate) fn noted<T>(
+        &self,
+        place: FaultPlace,
+        given: io::Result<T>,
+    ) -> Result<T, FolderFault> {
         match given {
             Ok(value) => Ok(value),
-            Err(error) => Err(self.fault_of(place, error)),
+            Err(error) => Err(self.note_fault(place, error)),
         }
     }
 
     // The fault that this error is, which is noted unless there was no memory.
-    pub(crate) fn fault_of(&self, place: Place, error: Error) -> FolderFault {
+    pub(crate) fn note_fault(&self, place: FaultPlace, error: Error) -> FolderFault {
         if error.kind() == ErrorKind::OutOfMemory {
             return FolderFault::NoMemory;
         }
@@ -137,9 +141,11 @@ impl<'a, R> StoreFolder<'a, R> {
             let holder = self.holder_behind(error);
             let _ = match place {
                 _ if folder.is_empty() => eprintln!(self.rt; "lcrvm: '': {error}"),
-                Place::Folder => eprintln!(self.rt; "lcrvm: {folder}: {error}{holder}"),
-                Place::Parent => eprintln!(self.rt; "lcrvm: {folder}/..: {error}"),
-                Place::Name(name) => eprintln!(self.rt; "lcrvm: {folder}/{name}: {error}{holder}"),
+                FaultPlace::Folder => eprintln!(self.rt; "lcrvm: {folder}: {error}{holder}"),
+                FaultPlace::Parent => eprintln!(self.rt; "lcrvm: {folder}/..: {error}"),
+                FaultPlace::Name(name) => eprintln!(self.rt;
+                    "lcrvm: {folder}/{name}: {error}{holder}"
+                ),
             };
         }
         if self.is_unmarked.load(Ordering::SeqCst) {
@@ -385,14 +391,14 @@ where
                     Ok(Some(len)) if len == file.len as u64 => {}
                     Ok(Some(_)) => self.note_file(file.name, "has another length"),
                     Ok(None) => self.note_file(file.name, "is missing"),
-                    Err(error) => self.note(Place::Name(StoreName::File(file.name)), error),
+                    Err(error) => self.note(FaultPlace::Name(StoreName::File(file.name)), error),
                 }
             }
         }
     }
 
     pub(crate) fn note_file(&self, name: FileName, why: &'static str) {
-        let place = Place::Name(StoreName::File(name));
+        let place = FaultPlace::Name(StoreName::File(name));
         self.note(place, Error::new(ErrorKind::InvalidData, why));
     }
 
@@ -403,7 +409,7 @@ where
             Ok(()) => Ok(()),
             Err(error) if error.kind() == ErrorKind::OutOfMemory => Err(error),
             Err(error) => {
-                self.note(Place::Parent, error);
+                self.note(FaultPlace::Parent, error);
                 Ok(())
             }
         }

@@ -1,5 +1,5 @@
 //! Who is told of the faults of a store's files.
-use crate::file_fault::Place;
+use crate::file_fault::FaultPlace;
 use crate::file_name::FileName;
 use crate::store_folder::StoreFolder;
 use crate::store_name::StoreName;
@@ -49,6 +49,6 @@ where
             self.folder.mark(&self.mark);
         }
         self.folder
-            .note(Place::Name(StoreName::File(self.name)), error);
+            .note(FaultPlace::Name(StoreName::File(self.name)), error);
     }
 }

@@ -2,7 +2,7 @@
 ghost use Rattle.std.specs.Prelude.{◌≡◌, ◌≤◌, ◌++◌, ◌∷◌, [], length, MatchOption};
 ghost use Rattle.lc_line.specs.Ends.{sent_on, taken_from, rest_of, line_to, line_from};
 
-use crate::log::{Roles, Total};
+use crate::pass_view::{Roles, Total};
 use crate::{RecvEnd, Rest, SendEnd};
 use std::sync::Wait;
 

@@ -3,8 +3,8 @@
 
 mod closing;
 mod ends;
-mod log;
 mod opening;
+mod pass_view;
 mod refused;
 mod sending;
 mod taking;

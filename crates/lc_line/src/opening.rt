@@ -2,7 +2,7 @@
 ghost use Rattle.std.specs.Prelude.{◌≡◌, [], IfOk};
 ghost use Rattle.lc_line.specs.Ends.{sent_on, taken_from, line_to, line_from};
 
-use crate::log::{InOrder, Log, Roles};
+use crate::pass_view::{InOrder, PassView, Roles};
 use crate::{RecvEnd, SendEnd};
 use crossbeam_channel::bounded_with;
 use std::alloc::{AllocError, Global};
@@ -17,7 +17,7 @@ pub fn open_line<T: Drop>(alloc: Global) -> Result<(SendEnd<T>, RecvEnd<T>), All
     ensures sent { IfOk result (λ ends. sent_on ends.0 ≡ []) }
     ensures taken { IfOk result (λ ends. taken_from ends.1 ≡ []) }
 {
-    let (to, from, mut pass) = bounded_with::<T, Log<T>, InOrder, Global>(alloc, ROOM)?;
+    let (to, from, mut pass) = bounded_with::<T, PassView<T>, InOrder, Global>(alloc, ROOM)?;
     let other = to.another::<Roles>(&mut pass);
     Ok((SendEnd { to, pass }, RecvEnd { from, pass: other }))
 }

@@ -2,7 +2,7 @@
 ghost use Rattle.std.specs.Prelude.{◌≡◌, ◌++◌, ◌∷◌, [], OnOk, OnErr, IfErr};
 ghost use Rattle.lc_line.specs.Ends.{sent_on, message_of, line_to, IsFull, WasFull};
 
-use crate::log::Sent;
+use crate::pass_view::Sent;
 use crate::{Refused, SendEnd};
 use crossbeam_channel::TrySendError;
 use std::sync::Wait;

@@ -3,7 +3,7 @@ ghost use Rattle.std.specs.Prelude.{◌≡◌, ◌++◌, ◌∷◌, [], MatchOpt
 ghost use Rattle.lc_line.specs.Ends.{taken_from, line_from};
 
 use crate::RecvEnd;
-use crate::log::Taken;
+use crate::pass_view::Taken;
 use std::sync::Wait;
 
 impl<T: Drop> RecvEnd<T> {

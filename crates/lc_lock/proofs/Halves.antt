@@ -1,7 +1,7 @@
 -- The two halves of the word, each of which wraps by itself.
 use Rattle.std.proofs.Common.{◌≡◌, ◌≢◌, ℕ, ◌+◌, ◌*◌, ◌/◌, ◌%◌, ◌<◌, ◌≤◌, sym, ap, ◌∙◌, lt_of_not-le, arith}
 use Rattle.atomic_table.proofs.Lists.{one_turn}
-use Rattle.lc_lock.specs.Queue.{word_of}
+use Rattle.lc_lock.specs.TicketQueue.{word_of}
 
 pub served_half : (d s : ℕ) → word_of d s % 4294967296 ≡ s % 4294967296
 served_half d s = omega arith

@@ -9,34 +9,34 @@ use prog.Atomic.{either}
 use Rattle.std.specs.Prelude.{Option, Some, None}
 use Rattle.atomic_table.specs.Table.{State, Me, Act, step, keeps, takes, gives, Valid, stepped, carried_after, put_back, Allows, Enters, opening}
 use Rattle.atomic_table.proofs.Lists.{at_set, at_snoc, at_longer, set_here, set_else, set_again, exchanged}
-use Rattle.lc_lock.specs.declared.turn.Turn.{Turn}
-use Rattle.lc_lock.specs.declared.turn.Turn.TheVariants.{Idle, Waits, Holds}
-use Rattle.lc_lock.specs.declared.turn.Place.{Place}
-use Rattle.lc_lock.specs.Queue.{word_of, ticket_of, HasTicket, Stands, place, first_place, HasComeTo, IsHome, IsOut, IsQueue, came, drew, began, took, gave}
+use Rattle.lc_lock.specs.declared.turn.TicketState.{TicketState}
+use Rattle.lc_lock.specs.declared.turn.TicketState.TheVariants.{Idle, Waits, Holds}
+use Rattle.lc_lock.specs.declared.turn.LockView.{LockView}
+use Rattle.lc_lock.specs.TicketQueue.{word_of, ticket_of, HasTicket, Stands, place, first_place, HasComeTo, IsHome, IsOut, IsQueue, came, drew, began, took, gave}
 use Rattle.lc_lock.specs.Bells.{listened, rang}
 use Rattle.lc_lock.proofs.LowBit.{sets_bit, clears_bit}
 use Rattle.lc_lock.proofs.Halves.{served_half, next_half, one_drawn, ServesNext, one_served, has_room, same_ticket}
 
-more_drawn : (d s : ℕ) (t : Turn) → Stands d s t → Stands (d + 1) s t
+more_drawn : (d s : ℕ) (t : TicketState) → Stands d s t → Stands (d + 1) s t
 more_drawn d s Idle h = tt
 more_drawn d s (Waits n) h = (h.0, omega arith)
 more_drawn d s (Holds n) h = (h.0, omega arith)
 
-one_served_less : (d s : ℕ) (t : Turn) → Stands d s t → (HasTicket t s → ⊥) → Stands d (s + 1) t
+one_served_less : (d s : ℕ) (t : TicketState) → Stands d s t → (HasTicket t s → ⊥) → Stands d (s + 1) t
 one_served_less d s Idle h other = tt
 one_served_less d s (Waits n) h other = let ne : n ≢ s = other in (omega arith, h.1)
 one_served_less d s (Holds n) h other = absurd (other h.0)
 
-is_drawn : (d s n : ℕ) (t : Turn) → Stands d s t → HasTicket t n → n < d
+is_drawn : (d s n : ℕ) (t : TicketState) → Stands d s t → HasTicket t n → n < d
 is_drawn d s n Idle h has = absurd has
 is_drawn d s n (Waits m) h has = omega arith
 is_drawn d s n (Holds m) h has = omega arith
 
-waits_with : (t : Turn) (n : ℕ) → t ≡ Waits n → HasTicket t n
-waits_with t n e = subst (λ (z : Turn). HasTicket z n) (sym e) refl
+waits_with : (t : TicketState) (n : ℕ) → t ≡ Waits n → HasTicket t n
+waits_with t n e = subst (λ (z : TicketState). HasTicket z n) (sym e) refl
 
-holds_with : (t : Turn) (n : ℕ) → t ≡ Holds n → HasTicket t n
-holds_with t n e = subst (λ (z : Turn). HasTicket z n) (sym e) refl
+holds_with : (t : TicketState) (n : ℕ) → t ≡ Holds n → HasTicket t n
+holds_with t n e = subst (λ (z : TicketState). HasTicket z n) (sym e) refl
 
 module _ {A : Type 0} where
   one_only : (l : List A) (a : A) → length l ≡ 1 → set l 0 a ≡ a ∷ []
@@ -64,20 +64,20 @@ module _ {A : Type 0} where
 
 module _ {T K : Type 0} (fits : K → T → Type 0) (key : K) where
   abbrev St : Type 0
-  St = State (Option T) (Place K)
+  St = State (Option T) (LockView K)
 
   abbrev M : Type 0
-  M = Me (Option T) (Place K)
+  M = Me (Option T) (LockView K)
 
-  abbrev Knows : ℕ → ℕ → Place K → Type 0
+  abbrev Knows : ℕ → ℕ → LockView K → Type 0
   Knows drawn served v = (v.key ≡ key) × Stands drawn served v.turn
 
   -- the seat can step to the word n
   abbrev Goes : St → ℕ → M → (M → Type 0) → ℕ → Type 0
-  Goes s id me told n = (w : Place K) × (a : Act (Option T)) × Valid s.homes me.1 a × IsQueue fits key (stepped s 0 n id me.1 w a) × told (w, carried_after me.1 a)
+  Goes s id me told n = (w : LockView K) × (a : Act (Option T)) × Valid s.homes me.1 a × IsQueue fits key (stepped s 0 n id me.1 w a) × told (w, carried_after me.1 a)
 
-  has_of : (w u : Place K) (n : ℕ) → w ≡ u → HasTicket u.turn n → HasTicket w.turn n
-  has_of w u n e h = subst (λ (z : Place K). HasTicket z.turn n) (sym e) h
+  has_of : (w u : LockView K) (n : ℕ) → w ≡ u → HasTicket u.turn n → HasTicket w.turn n
+  has_of w u n e h = subst (λ (z : LockView K). HasTicket z.turn n) (sym e) h
 
   found : (s : St) → (r : IsQueue fits key s) → get_or s.words 0 0 ≡ word_of r.drawn r.served
   found s r = ap (λ (ws : List ℕ). get_or ws 0 0) r.word
@@ -86,9 +86,9 @@ module _ {T K : Type 0} (fits : K → T → Type 0) (key : K) where
   stored s r n = ap (λ (ws : List ℕ). set ws 0 n) r.word
 
   -- the seat has a new view, the other seats still stand, and none of them has its ticket
-  moved : (s : St) → IsQueue fits key s → (id : ℕ) (w : Place K) (drawn served : ℕ) (bells words : List ℕ) (homes : List (maybe.Option (Option T))) → words ≡ word_of drawn served ∷ bells → 0 < drawn → served ≤ drawn → drawn < served + 4294967296
-      → Knows drawn served w → ((j : ℕ) (u : Place K) → j ≢ id → get_elem? s.views j ≡ some u → Stands drawn served u.turn)
-      → ((j n : ℕ) (u : Place K) → j ≢ id → get_elem? s.views j ≡ some u → HasTicket w.turn n → HasTicket u.turn n → ⊥)
+  moved : (s : St) → IsQueue fits key s → (id : ℕ) (w : LockView K) (drawn served : ℕ) (bells words : List ℕ) (homes : List (maybe.Option (Option T))) → words ≡ word_of drawn served ∷ bells → 0 < drawn → served ≤ drawn → drawn < served + 4294967296
+      → Knows drawn served w → ((j : ℕ) (u : LockView K) → j ≢ id → get_elem? s.views j ≡ some u → Stands drawn served u.turn)
+      → ((j n : ℕ) (u : LockView K) → j ≢ id → get_elem? s.views j ≡ some u → HasTicket w.turn n → HasTicket u.turn n → ⊥)
       → IsHome fits key served homes (set s.views id w) ⊎ IsOut served homes (set s.views id w) → IsQueue fits key record { words = words; homes = homes; views = set s.views id w }
   moved s r id w drawn served bells words homes word begun behind few mine others alone value = record {
     drawn = drawn;
@@ -135,17 +135,17 @@ module _ {T K : Type 0} (fits : K → T → Type 0) (key : K) where
   rings slots id me place beside = tolls slots id me place (λ n. (n + 1) % 18446744073709551616) (rang (step slots place 1 0 none) me) beside (λ n. (refl, clears_bit n))
 
   -- a seat that holds nothing, and whose new view does not either, leaves the value where it is
-  value_stays : (s : St) → (r : IsQueue fits key s) → (id : ℕ) (v w : Place K) → get_elem? s.views id ≡ some v → ((n : ℕ) → v.turn ≢ Holds n) → ((n : ℕ) → w.turn ≢ Holds n)
+  value_stays : (s : St) → (r : IsQueue fits key s) → (id : ℕ) (v w : LockView K) → get_elem? s.views id ≡ some v → ((n : ℕ) → v.turn ≢ Holds n) → ((n : ℕ) → w.turn ≢ Holds n)
       → IsHome fits key r.served s.homes (set s.views id w) ⊎ IsOut r.served s.homes (set s.views id w)
   value_stays s r id v w at was is = ⊎_elim
-      (λ (h : IsHome fits key r.served s.homes s.views). inl (h.0, h.1, h.2, λ i n u e held. ⊎_elim (λ (t : (i ≡ id) × (w ≡ u)). is n (ap (λ (z : Place K). z.turn) t.1 ∙ held)) (λ (t : (i ≢ id) × (get_elem? s.views i ≡ some u)). h.3 i n u t.1 held) (at_set s.views id i w u e)))
+      (λ (h : IsHome fits key r.served s.homes s.views). inl (h.0, h.1, h.2, λ i n u e held. ⊎_elim (λ (t : (i ≡ id) × (w ≡ u)). is n (ap (λ (z : LockView K). z.turn) t.1 ∙ held)) (λ (t : (i ≢ id) × (get_elem? s.views i ≡ some u)). h.3 i n u t.1 held) (at_set s.views id i w u e)))
       (λ (o : IsOut r.served s.homes s.views). let who = o.1 in
-      let other : who.0 ≢ id = λ e. was r.served (ap (λ (z : Place K). z.turn) (some-injective v who.1 (sym at ∙ (ap (get_elem? s.views) (sym e) ∙ who.2))) ∙ who.3) in
+      let other : who.0 ≢ id = λ e. was r.served (ap (λ (z : LockView K). z.turn) (some-injective v who.1 (sym at ∙ (ap (get_elem? s.views) (sym e) ∙ who.2))) ∙ who.3) in
       inr (o.0, (who.0, who.1, set_else s.views id who.0 w other ∙ who.2, who.3)))
       r.value
 
   pub comes : (slots : ℕ) → Enters (IsQueue fits key) slots 0 (λ n w. came {T = T} (step slots 0 0 0 none) (first_place key, []) n (w, []))
-  comes slots s r wide small = let w : Place K = place key Idle in (
+  comes slots s r wide small = let w : LockView K = place key Idle in (
     w,
     record {
       drawn = r.drawn;
@@ -160,7 +160,7 @@ module _ {T K : Type 0} (fits : K → T → Type 0) (key : K) where
           (λ (t : get_elem? s.views i ≡ some v). ⊎_elim (λ (q : get_elem? s.views j ≡ some x). r.apart i j n v x t q has also) (λ (q : w ≡ x). absurd (has_of w x n q also)) (at_snoc s.views w x j f))
           (λ (t : w ≡ v). absurd (has_of w v n t has)) (at_snoc s.views w v i e);
       value = ⊎_elim
-          (λ (h : IsHome fits key r.served s.homes s.views). inl (h.0, h.1, h.2, λ i n v e held. ⊎_elim (λ (t : get_elem? s.views i ≡ some v). h.3 i n v t held) (λ (t : w ≡ v). let clash : Idle ≡ Holds n = ap (λ (z : Place K). z.turn) t ∙ held in cc) (at_snoc s.views w v i e)))
+          (λ (h : IsHome fits key r.served s.homes s.views). inl (h.0, h.1, h.2, λ i n v e held. ⊎_elim (λ (t : get_elem? s.views i ≡ some v). h.3 i n v t held) (λ (t : w ≡ v). let clash : Idle ≡ Holds n = ap (λ (z : LockView K). z.turn) t ∙ held in cc) (at_snoc s.views w v i e)))
           (λ (o : IsOut r.served s.homes s.views). inr (o.0, (o.1.0, o.1.1, at_longer s.views (w ∷ []) o.1.0 o.1.1 o.1.2, o.1.3)))
           r.value;
     },
@@ -170,7 +170,7 @@ module _ {T K : Type 0} (fits : K → T → Type 0) (key : K) where
   pub draws : (slots id : ℕ) (me : M) (old new : ℕ) → me.0.turn ≡ Idle → (old / 4294967296 + 1) % 4294967296 ≢ old % 4294967296 → new ≡ (old + 4294967296) % 18446744073709551616
       → Allows (IsQueue fits key) slots id me 0 (λ n. either (eqb n old) new n) (drew (step slots 0 old new none) me)
   draws slots id me old new idle room more s r wide at small = let n : ℕ = get_or s.words 0 0 in let d : ℕ = r.drawn in let f : ℕ = r.served in let told = drew (step slots 0 old new none) me n in exchanged n old new (Goes s id me told)
-      (λ hit. let is : old ≡ word_of d f = sym hit ∙ found s r in let w : Place K = place me.0.key (Waits d) in
+      (λ hit. let is : old ≡ word_of d f = sym hit ∙ found s r in let w : LockView K = place me.0.key (Waits d) in
       let left = has_room d f r.behind r.few (subst (λ (z : ℕ). (z / 4294967296 + 1) % 4294967296 ≢ z % 4294967296) is room) in
       let becomes : new ≡ word_of (d + 1) f = more ∙ (ap (λ (z : ℕ). (z + 4294967296) % 18446744073709551616) is ∙ one_drawn d f) in
       let behind : f ≤ d = r.behind in (
@@ -187,7 +187,7 @@ module _ {T K : Type 0} (fits : K → T → Type 0) (key : K) where
   -- the seat whose ticket is served takes what is in the slot
   takes_slot : (s : St) → (r : IsQueue fits key s) → (id t : ℕ) (me : M) (told : M → Type 0) → get_elem? s.views id ≡ some me.0 → me.0.turn ≡ Waits t → t ≡ r.served
       → ((y : Option T) → HasComeTo fits me.0.key t y → told (place me.0.key (Holds t), (0, y) ∷ me.1)) → Goes s id me told (get_or s.words 0 0)
-  takes_slot s r id t me told at waits is tells = let f : ℕ = r.served in let w : Place K = place me.0.key (Holds t) in let known = r.knows id me.0 at in let mine = waits_with me.0.turn t waits in
+  takes_slot s r id t me told at waits is tells = let f : ℕ = r.served in let w : LockView K = place me.0.key (Holds t) in let known = r.knows id me.0 at in let mine = waits_with me.0.turn t waits in
       let drawn : t < r.drawn = is_drawn r.drawn f t me.0.turn known.1 mine in ⊎_elim
       (λ (h : IsHome fits key f s.homes s.views). let y : Option T = h.0 in let come : HasComeTo fits me.0.key t y = subst (λ (z : K × ℕ). HasComeTo fits z.0 z.1 y) (λ k. (sym known.0 k, sym is k)) h.2 in (
         w,
@@ -199,7 +199,7 @@ module _ {T K : Type 0} (fits : K → T → Type 0) (key : K) where
         tells y come,
       ))
       (λ (o : IsOut f s.homes s.views). let who = o.1 in let same : id ≡ who.0 = r.apart id who.0 t me.0 who.1 at who.2 mine (holds_with who.1.turn t (who.3 ∙ ap (λ (z : ℕ). Holds z) (sym is))) in
-      let one : me.0 ≡ who.1 = some-injective me.0 who.1 (sym at ∙ (ap (get_elem? s.views) same ∙ who.2)) in let clash : Waits t ≡ Holds f = sym waits ∙ (ap (λ (z : Place K). z.turn) one ∙ who.3) in absurd (cc))
+      let one : me.0 ≡ who.1 = some-injective me.0 who.1 (sym at ∙ (ap (get_elem? s.views) same ∙ who.2)) in let clash : Waits t ≡ Holds f = sym waits ∙ (ap (λ (z : LockView K). z.turn) one ∙ who.3) in absurd (cc))
       r.value
 
   pub begins : (slots id : ℕ) (me : M) → me.0.turn ≡ Waits 0 → Allows (IsQueue fits key) slots id me 0 (λ n. n) (began (step slots 0 0 0 none) me)
@@ -218,10 +218,10 @@ module _ {T K : Type 0} (fits : K → T → Type 0) (key : K) where
 
   pub serves : (slots id t ticket k : ℕ) (me : M) (x : T) → slots ≡ 1 → me.0.turn ≡ Holds t → me.1 ≡ (0, Some x) ∷ [] → ticket ≡ t % 4294967296 → fits key x → ServesNext ticket k
       → Allows (IsQueue fits key) slots id me 0 (λ n. (n + k) % 18446744073709551616) (gave (step slots 0 k 0 none) me)
-  serves slots id t ticket k me x one holds carried low fit law s r wide at small = let d : ℕ = r.drawn in let f : ℕ = r.served in let w : Place K = place me.0.key Idle in
+  serves slots id t ticket k me x one holds carried low fit law s r wide at small = let d : ℕ = r.drawn in let f : ℕ = r.served in let w : LockView K = place me.0.key Idle in
       let known = r.knows id me.0 at in let stands : (t ≡ f) × (t < d) = subst (Stands d f) holds known.1 in let same : t ≡ f = stands.0 in
       let mine : HasTicket me.0.turn f = holds_with me.0.turn f (holds ∙ ap (λ (z : ℕ). Holds z) same) in
-      let others : (j : ℕ) (u : Place K) → j ≢ id → get_elem? s.views j ≡ some u → HasTicket u.turn f → ⊥ = λ j u other e has. other (r.apart j id f u me.0 e at has mine) in
+      let others : (j : ℕ) (u : LockView K) → j ≢ id → get_elem? s.views j ≡ some u → HasTicket u.turn f → ⊥ = λ j u other e has. other (r.apart j id f u me.0 e at has mine) in
       let law' : ServesNext (f % 4294967296) k = subst (λ (z : ℕ). ServesNext z k) (low ∙ ap (λ (z : ℕ). z % 4294967296) same) law in
       let new : ℕ = (get_or s.words 0 0 + k) % 18446744073709551616 in
       let becomes : new ≡ word_of d (f + 1) = ap (λ (z : ℕ). (z + k) % 18446744073709551616) (found s r) ∙ one_served d f k law' in
@@ -235,7 +235,7 @@ module _ {T K : Type 0} (fits : K → T → Type 0) (key : K) where
               Some x,
               home,
               ((λ e. absurd (omega arith)), λ _. (x, refl, fit)),
-              λ i n u e held. ⊎_elim (λ (z : (i ≡ id) × (w ≡ u)). let clash : Idle ≡ Holds n = ap (λ (p : Place K). p.turn) z.1 ∙ held in cc)
+              λ i n u e held. ⊎_elim (λ (z : (i ≡ id) × (w ≡ u)). let clash : Idle ≡ Holds n = ap (λ (p : LockView K). p.turn) z.1 ∙ held in cc)
                   (λ (z : (i ≢ id) × (get_elem? s.views i ≡ some u)). let now : (n ≡ f) × (n < d) = subst (Stands d f) held (r.knows i u z.1).1 in others i u z.0 z.1 (holds_with u.turn f (held ∙ ap (λ (m : ℕ). Holds m) now.0)))
                   (at_set s.views id i w u e),
             )),
@@ -253,12 +253,12 @@ module _ {T K : Type 0} (fits : K → T → Type 0) (key : K) where
     few = omega arith;
     knows = λ i v e. subst (Knows 1 0) (first_alone (first_place key) v i e) (refl, (omega arith, omega arith));
     apart = λ i j n v w e f has also. first_place_alone (first_place key) v i e ∙ sym (first_place_alone (first_place key) w j f);
-    value = inl (None, refl, ((λ _. refl), λ l. absurd (omega arith)), λ i n v e held. let clash : Waits 0 ≡ Holds n = ap (λ (z : Place K). z.turn) (first_alone (first_place key) v i e) ∙ held in cc);
+    value = inl (None, refl, ((λ _. refl), λ l. absurd (omega arith)), λ i n v e held. let clash : Waits 0 ≡ Holds n = ap (λ (z : LockView K). z.turn) (first_alone (first_place key) v i e) ∙ held in cc);
   }
 
-  pub one_holder : (s : St) (i j m n : ℕ) (v w : Place K) → IsQueue fits key s → get_elem? s.views i ≡ some v → get_elem? s.views j ≡ some w → v.turn ≡ Holds m → w.turn ≡ Holds n → i ≡ j
+  pub one_holder : (s : St) (i j m n : ℕ) (v w : LockView K) → IsQueue fits key s → get_elem? s.views i ≡ some v → get_elem? s.views j ≡ some w → v.turn ≡ Holds m → w.turn ≡ Holds n → i ≡ j
   one_holder s i j m n v w r at also a b = let one : (m ≡ r.served) × (m < r.drawn) = subst (Stands r.drawn r.served) a (r.knows i v at).1 in let two : (n ≡ r.served) × (n < r.drawn) = subst (Stands r.drawn r.served) b (r.knows j w also).1 in
       r.apart i j m v w at also (holds_with v.turn m a) (holds_with w.turn m (b ∙ ap (λ (z : ℕ). Holds z) (two.0 ∙ sym one.0)))
 
-  pub held_is_out : (s : St) (i n : ℕ) (v : Place K) → IsQueue fits key s → get_elem? s.views i ≡ some v → v.turn ≡ Holds n → s.homes ≡ none ∷ []
+  pub held_is_out : (s : St) (i n : ℕ) (v : LockView K) → IsQueue fits key s → get_elem? s.views i ≡ some v → v.turn ≡ Holds n → s.homes ≡ none ∷ []
   held_is_out s i n v r at a = ⊎_elim (λ (h : IsHome fits key r.served s.homes s.views). absurd (h.3 i n v at a)) (λ (o : IsOut r.served s.homes s.views). o.0) r.value

@@ -2,7 +2,7 @@
 -- A bell's low bit says that somebody may sleep at it, and above that it counts how often it rang.
 use Rattle.std.specs.Prelude.{◌≡◌, ℕ, ◌+◌, ◌*◌, ◌/◌, ◌%◌, ◌^◌, ◌<◌, ◌≤◌, bit_or, Option}
 use Rattle.atomic_table.specs.Table.{Me, Step}
-use Rattle.lc_lock.specs.declared.turn.Place.{Place}
+use Rattle.lc_lock.specs.declared.turn.LockView.{LockView}
 use Rattle.lc_lock.specs.declared.bells.TheConstants.{BELLS}
 
 -- this place in the table is that of a bell
@@ -23,9 +23,9 @@ awaited bell = bell / 2 * 2 + 1
 
 module _ {T K : Type 0} where
   -- nothing is another for the seat, and the bell says that somebody may sleep at it
-  abbrev pub listened : Step (Option T) → Me (Option T) (Place K) → ℕ → Me (Option T) (Place K) → Type 0
+  abbrev pub listened : Step (Option T) → Me (Option T) (LockView K) → ℕ → Me (Option T) (LockView K) → Type 0
   listened st m n m' = (m' ≡ m) × (bit_or n st.first ≡ awaited n)
 
   -- nothing is another for the seat, and a bell at which somebody might sleep says so no more
-  abbrev pub rang : Step (Option T) → Me (Option T) (Place K) → ℕ → Me (Option T) (Place K) → Type 0
+  abbrev pub rang : Step (Option T) → Me (Option T) (LockView K) → ℕ → Me (Option T) (LockView K) → Type 0
   rang st m n m' = (m' ≡ m) × (IsAwaited n → (n + st.first) % 2 ^ 64 % 2 ≡ 0)

@@ -1,4 +1,4 @@
-pub mod Queue
+pub mod TicketQueue
 pub mod Bells
 pub mod Patience
 pub mod Loans

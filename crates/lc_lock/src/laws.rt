@@ -3,9 +3,9 @@ ghost use Rattle.std.specs.Prelude.{◌≡◌, ℕ, [], ◌∷◌, Option};
 ghost use mathlib.Core.Option.{none, some};
 ghost use lib.ListN.{get_elem?};
 ghost use Rattle.atomic_table.specs.Table.{State};
-ghost use Rattle.lc_lock.specs.Queue.{IsQueue};
-ghost use Rattle.lc_lock.specs.declared.turn.Place.{Place as Seen};
-ghost use Rattle.lc_lock.specs.declared.turn.Turn.TheVariants.{Holds};
+ghost use Rattle.lc_lock.specs.TicketQueue.{IsQueue};
+ghost use Rattle.lc_lock.specs.declared.turn.LockView.{LockView as Seen};
+ghost use Rattle.lc_lock.specs.declared.turn.TicketState.TheVariants.{Holds};
 
 use crate::Keyed;
 

@@ -1,10 +1,10 @@
 //! What tells that a lock's value is out.
 ghost use Rattle.std.specs.Prelude.{◌≡◌, ◌%◌, ◌^◌};
-ghost use Rattle.lc_lock.specs.Queue.{holding, ticket_of};
+ghost use Rattle.lc_lock.specs.TicketQueue.{holding, ticket_of};
 
 use crate::turn::QueueSeat;
 
-/// The right and the duty to give a lock a value back. It ends in `Lock::unlock`, or with the lock in `Lock::end`: it is never
+/// The right and the duty to give a lock a value back. It ends in `TicketLock::unlock`, or with the lock in `TicketLock::end`: it is never
 /// dropped, so a program in which a way past both is left does not compile. Two of one lock are never out at a time.
 pub struct Loan<T, K> {
     pub(crate) seat: QueueSeat<T, K>,

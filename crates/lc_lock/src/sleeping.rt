@@ -3,17 +3,17 @@
 //! Who sleeps sets the bit of its bell first and looks at the tickets then. Who rings serves the ticket first and looks at the bell
 //! then. So either the one sees that its ticket is served, or the other sees the bit.
 ghost use Rattle.std.specs.Prelude.{◌≡◌, ◌%◌, IsTrue, IsFalse};
-ghost use Rattle.lc_lock.specs.Queue.{IsServed, IsWaiting};
+ghost use Rattle.lc_lock.specs.TicketQueue.{IsServed, IsWaiting};
 ghost use Rattle.lc_lock.specs.Bells.{IsAwaited, IsBell};
 ghost use Rattle.lc_lock.specs.Loans.{key_of};
 
 use crate::bells::{RING, SLEEPER, bell_of, heard_at, is_awaited};
 use crate::plays::{Listen, Ring};
 use crate::turn::QueueSeat;
-use crate::{Keyed, Lock};
+use crate::{Keyed, TicketLock};
 use std::sync::Wait;
 
-impl<T: Keyed<K>, K> Lock<T, K> {
+impl<T: Keyed<K>, K> TicketLock<T, K> {
     // Sleeps until the bell of the seat's ticket rings, or for no reason less long. Where the ticket is served before that it takes
     // the slot, and answers that it has.
     pub(crate) fn sleep<R: Wait>(&self, rt: &R, seat: &mut QueueSeat<T, K>, ticket: u32) -> bool

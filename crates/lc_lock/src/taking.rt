@@ -1,7 +1,7 @@
 //! The calls of a lock.
 ghost use Rattle.std.specs.Prelude.{◌≡◌, ◌%◌, ◌^◌, ◌<◌, [], IfNone, IfSome};
-ghost use Rattle.lc_lock.specs.declared.turn.Turn.TheVariants.{Idle};
-ghost use Rattle.lc_lock.specs.Queue.{IsWaiting, IsServed, holding, ticket_of};
+ghost use Rattle.lc_lock.specs.declared.turn.TicketState.TheVariants.{Idle};
+ghost use Rattle.lc_lock.specs.TicketQueue.{IsWaiting, IsServed, holding, ticket_of};
 ghost use Rattle.lc_lock.specs.Loans.{key_of, IsLoanOf};
 
 use crate::bells::bell_behind;
@@ -9,11 +9,11 @@ use crate::patience::{Pause, pause_after};
 use crate::plays::{Come, Draw, Serve, Take};
 use crate::tickets::{DRAWN, ahead_of, has_waiters, is_full, next_in, out_in, served_in, to_next};
 use crate::turn::{QueueSeat, SLOT, WORD};
-use crate::{Keyed, Loan, Lock};
+use crate::{Keyed, Loan, TicketLock};
 use std::sync::Wait;
 use std::{hint, thread};
 
-impl<T: Keyed<K>, K> Lock<T, K> {
+impl<T: Keyed<K>, K> TicketLock<T, K> {
     /// Waits until all who drew a ticket before have had the value and have given one back, and takes it. Who has the value and
     /// locks again waits for ever. It takes no memory. At most 2^32 - 1 tickets are out at a time: who comes then draws one
     /// once another is served.

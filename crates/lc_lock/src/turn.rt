@@ -5,7 +5,7 @@ use std::alloc::Global;
 
 /// Where a seat stands. Its ticket is the number of those drawn before, without an end; the lock's word has the low 32 bits.
 /// No value of it is made.
-pub enum Turn {
+pub enum TicketState {
     /// It has no ticket.
     Idle,
     /// It waits with this ticket.
@@ -15,26 +15,26 @@ pub enum Turn {
 }
 
 /// What a seat knows: the key of its lock, and where it stands. No value of it is made.
-pub struct Place<K> {
+pub struct LockView<K> {
     pub key: K,
-    pub turn: Turn,
+    pub turn: TicketState,
 }
 
 /// The first word counts the tickets that were drawn and those that were served, and the one slot has the value until the seat
 /// whose ticket is served takes it. The other words are bells, of which nothing is known.
-pub struct Queue;
+pub struct TicketQueue;
 
-impl<T: Keyed<K>, K> TableRule<Option<T>, Place<K>, K> for Queue {
-    ghost use Rattle.lc_lock.specs.Queue.{IsQueue, first_place};
+impl<T: Keyed<K>, K> TableRule<Option<T>, LockView<K>, K> for TicketQueue {
+    ghost use Rattle.lc_lock.specs.TicketQueue.{IsQueue, first_place};
 
     ghost holds = { IsQueue T.fits };
 
     ghost first = { first_place };
 }
 
-pub(crate) type QueueTable<T, K> = Table<Option<T>, Place<K>, K, Queue, Global>;
+pub(crate) type QueueTable<T, K> = Table<Option<T>, LockView<K>, K, TicketQueue, Global>;
 
-pub(crate) type QueueSeat<T, K> = Seat<Option<T>, Place<K>>;
+pub(crate) type QueueSeat<T, K> = Seat<Option<T>, LockView<K>>;
 
 // The place of the word of the tickets in the table.
 pub(crate) const WORD: usize = 0;

@@ -11,7 +11,7 @@ use Rattle.lc_record.specs.Content.{Content}
 use Rattle.lc_record.specs.Marks.{counting}
 use Rattle.lc_record.specs.declared.geometry.Geometry.{Geometry}
 use Rattle.lc_record.proofs.ListLemmas.{counting_push as counting_more}
-use Rattle.lc_model.specs.Merge.{MergeFault, MergesTo, Refuses, Store}
+use Rattle.lc_model.specs.Merge.{MergeFault, MergesTo, Refuses, StoreText}
 use Rattle.lc_model.proofs.Outcome.{fault-apart, one-value}
 use Rattle.lc_model.specs.declared.refusal.Refusal.{Refusal}
 use Rattle.lc_model.specs.declared.reply.Reply.TheVariants.{Recovered as IsReply}
@@ -84,7 +84,7 @@ module _ {D : Type 0} (a : Ghosts D) (g : Geometry) (areas : List D) where
           let at = goes.before fault is refused in
           let made = merged next at.honest in
           let same : store_of new.geometry (map a.now new.areas) ≡ store_of g (map a.now areas) = there new (geometry ∙ goes.geometry) (ap (map a.now) (no_call next) ∙ at.same) in
-          fault-apart (store_of g (map a.now areas)) fault made.content made.numbers refused (subst (λ (s : Store). MergesTo s made.content made.numbers) same made.merges)
+          fault-apart (store_of g (map a.now areas)) fault made.content made.numbers refused (subst (λ (s : StoreText). MergesTo s made.content made.numbers) same made.merges)
 
       still_before : (fault : MergeFault) → AreHonest a areas → ReadsRefused a g areas fault → IsBefore new
       still_before fault is refused =
@@ -158,7 +158,7 @@ module _ {D : Type 0} (a : Ghosts D) (g : Geometry) (areas : List D) where
           let early : old.steps + 1 ≤ first_steps old.geometry = subst (λ (h : Geometry). old.steps + 1 ≤ first_steps h) (sym goes.geometry) at.early in
           elim (cases_lt (old.steps + 1) (first_steps old.geometry)) [
             | inl earlier ↦ inr (calls (λ next. omega (arith, earlier, next)))
-            | inr late ↦ inl (subst (λ (s : Store). IsRefusal s fault) (there old goes.geometry at.same) (refuses (omega (arith, early, late)) at.honest))
+            | inr late ↦ inl (subst (λ (s : StoreText). IsRefusal s fault) (there old goes.geometry at.same) (refuses (omega (arith, early, late)) at.honest))
           ];
       wrong = λ area wrong. absurd (wrong.is (lengths area));
     }
@@ -194,7 +194,7 @@ same_text g numbers store same each =
     (λ segment low high. ap (segment_text segment) (each segment low (omega (arith, high)))))
 
 -- what was refused ends with its refusal
-merge_stop : (store : Store) (merge : MergeFault) (found : RecoverFault) → Refuses store merge → IsRefusal store found → RefusesStore merge (stop_text found) (stop_status found)
+merge_stop : (store : StoreText) (merge : MergeFault) (found : RecoverFault) → Refuses store merge → IsRefusal store found → RefusesStore merge (stop_text found) (stop_status found)
 merge_stop store merge (BadGeometry area) refused is = inl (ap refusal_text (same_refusal store merge (BadGeometry area) (Refusal.BadGeometry area) refused is refl), refl)
 merge_stop store merge (Gap segment seq) refused is = inl (ap refusal_text (same_refusal store merge (Gap segment seq) (Refusal.Gap segment seq) refused is refl), refl)
 merge_stop store merge (Twice segment seq) refused is = inl (ap refusal_text (same_refusal store merge (Twice segment seq) (Refusal.Twice segment seq) refused is refl), refl)

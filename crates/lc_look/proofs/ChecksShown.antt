@@ -9,7 +9,7 @@ use Rattle.std.proofs.lemmas.List.Elements.{All-push, All-contains_itself, All-w
 use Rattle.lc_record.specs.Marks.{counting}
 use Rattle.lc_record.specs.declared.geometry.Geometry.{Geometry}
 use Rattle.lc_record.proofs.ListLemmas.{counting_push as counting_more}
-use Rattle.lc_model.specs.Merge.{MergesTo, Store}
+use Rattle.lc_model.specs.Merge.{MergesTo, StoreText}
 use Rattle.lc_model.specs.declared.reply.Reply.TheVariants.{Recovered as IsReply}
 use Rattle.lc_recover.specs.Forecast.{Foretold, IsForecast, IsPageBehind, sequence_of}
 use Rattle.lc_text.proofs.Writes.{same_bytes}
@@ -47,7 +47,7 @@ one_of : (n page : ℕ) → Contains (n ∷ []) page → n ≡ page
 one_of n page (zero, less, is) = is
 one_of n page (suc k, less, is) = absurd (omega (arith, less))
 
-module _ (store : Store) (segment n : ℕ) (pages : List ℕ) (are : AreBehindIn n store segment pages) where
+module _ (store : StoreText) (segment n : ℕ) (pages : List ℕ) (are : AreBehindIn n store segment pages) where
   below : All (λ p. p < n) pages
   below = All-weaker (Contains pages) (λ p. p < n) (λ p has. ((are.all p).0 has).0) pages (All-contains_itself pages)
 
@@ -84,7 +84,7 @@ module _ (store : Store) (segment n : ℕ) (pages : List ℕ) (are : AreBehindIn
 
 -- Segments
 
-pub behind-more : (g : Geometry) (store : Store) (from n : ℕ) (front own : List ℕ) → BehindTexts g store from n front → IsBehindText g.pages store (from + n) own → BehindTexts g store from (suc n) (front ++ own)
+pub behind-more : (g : Geometry) (store : StoreText) (from n : ℕ) (front own : List ℕ) → BehindTexts g store from n front → IsBehindText g.pages store (from + n) own → BehindTexts g store from (suc n) (front ++ own)
 behind-more g store from zero front own none is =
     let here : from + 0 ≡ from = omega arith in
     (own, [], subst (λ (s : ℕ). IsBehindText g.pages store s own) here is, refl, ap (λ (l : List ℕ). l ++ own) none ∙ sym (append-nil own))
@@ -102,7 +102,7 @@ same_recovered g f h each =
     (λ segment low high. ap (segment_text segment) (each segment low (omega (arith, high)))))
 
 -- the last lines are those of a recovery
-pub shows-ends : (g : Geometry) (store : Store) (text : List ℕ) (status : ℕ) → Shows g store text status → EndsWithRecovery g text status
+pub shows-ends : (g : Geometry) (store : StoreText) (text : List ℕ) (status : ℕ) → Shows g store text status → EndsWithRecovery g text status
 shows-ends g store text status (rest, is, inl (content, numbers, merges, behind, texts, lines, done)) = (
   logs_text g store ++ behind,
   recovered_text g numbers,
@@ -112,7 +112,7 @@ shows-ends g store text status (rest, is, inl (content, numbers, merges, behind,
 shows-ends g store text status (rest, is, inr (fault, refusal, memory, line, done)) = (logs_text g store, rest, is, inr (fault, line, done))
 
 -- a store that was read, and its forecast
-pub shows-forecast : (g : Geometry) (store : Store) (forecast : Foretold) → IsForecast forecast → forecast.store ≡ store → forecast.geometry ≡ g
+pub shows-forecast : (g : Geometry) (store : StoreText) (forecast : Foretold) → IsForecast forecast → forecast.store ≡ store → forecast.geometry ≡ g
     → (behind : List ℕ) → BehindTexts forecast.geometry forecast.store 1 forecast.geometry.segments behind
     → Shows g store (logs_text g store ++ (behind ++ recovered_text forecast.geometry (sequence_of forecast))) 0
 shows-forecast g store forecast its same_store same_geometry behind texts = (
@@ -121,9 +121,9 @@ shows-forecast g store forecast its same_store same_geometry behind texts = (
   inl (
     its.content,
     its.numbers,
-    subst (λ (s : Store). MergesTo s its.content its.numbers) same_store its.merges,
+    subst (λ (s : StoreText). MergesTo s its.content its.numbers) same_store its.merges,
     behind,
-    subst (λ (h : Geometry). BehindTexts h store 1 h.segments behind) same_geometry (subst (λ (s : Store). BehindTexts forecast.geometry s 1 forecast.geometry.segments behind) same_store texts),
+    subst (λ (h : Geometry). BehindTexts h store 1 h.segments behind) same_geometry (subst (λ (s : StoreText). BehindTexts forecast.geometry s 1 forecast.geometry.segments behind) same_store texts),
     ap (λ (t : List ℕ). behind ++ t) (same_recovered forecast.geometry (sequence_of forecast) its.numbers its.sequences ∙ ap (λ (h : Geometry). recovered_text h its.numbers) same_geometry),
     refl,
   ),

@@ -3,7 +3,7 @@ use Rattle.std.proofs.Common.{◌≡◌, ℕ, zero, suc, ◌+◌, ◌<◌, ◌�
 use Rattle.std.specs.Prelude.{decimal}
 use Rattle.std.proofs.lemmas.List.{flat_map_more}
 use Rattle.lc_record.specs.declared.geometry.Geometry.{Geometry}
-use Rattle.lc_model.specs.Merge.{MergesTo, Store}
+use Rattle.lc_model.specs.Merge.{MergesTo, StoreText}
 use Rattle.lc_recover.specs.Forecast.{Foretold, IsForecast, sequence_of}
 use Rattle.lc_look.specs.Json.{IsSegmentJson, SegmentsJson, ShowsJson, comma_text, later_page, logs_front, logs_json, pages_json, recovered_json, segment_json}
 use Rattle.lc_look.proofs.ChecksShown.{none_of}
@@ -14,7 +14,7 @@ page_more [] page = sym (append-nil (decimal page))
 page_more (p ∷ pages) page = flat_map_more later_page (decimal p) pages page
 
 -- one segment more
-pub segment_more : (g : Geometry) (store : Store) (numbers : ℕ → ℕ) (from n : ℕ) (front own : List ℕ) → SegmentsJson g store numbers from n front
+pub segment_more : (g : Geometry) (store : StoreText) (numbers : ℕ → ℕ) (from n : ℕ) (front own : List ℕ) → SegmentsJson g store numbers from n front
     → IsSegmentJson g.pages store numbers (from + n) own → SegmentsJson g store numbers from (suc n) (front ++ own)
 segment_more g store numbers from zero front own none is =
     let here : from + 0 ≡ from = omega arith in
@@ -25,7 +25,7 @@ segment_more g store numbers from (suc n) front own some is =
     (some.0, some.1 ++ own, some.2, rest, ap (λ (l : List ℕ). l ++ own) some.4 ∙ append_assoc some.0 some.1 own)
 
 -- the same numbers are printed so
-pub same_segments : (g : Geometry) (store : Store) (f h : ℕ → ℕ) (from n : ℕ) (text : List ℕ) → ((k : ℕ) → from ≤ k → k < from + n → f k ≡ h k)
+pub same_segments : (g : Geometry) (store : StoreText) (f h : ℕ → ℕ) (from n : ℕ) (text : List ℕ) → ((k : ℕ) → from ≤ k → k < from + n → f k ≡ h k)
     → SegmentsJson g store f from n text → SegmentsJson g store h from n text
 same_segments g store f h from zero text each none = none
 same_segments g store f h from (suc n) text each some =
@@ -38,7 +38,7 @@ same_segments g store f h from (suc n) text each some =
     )
 
 -- a store that was read, and its forecast
-pub shows_forecast : (g : Geometry) (store : Store) (forecast : Foretold) → IsForecast forecast → forecast.store ≡ store → forecast.geometry ≡ g
+pub shows_forecast : (g : Geometry) (store : StoreText) (forecast : Foretold) → IsForecast forecast → forecast.store ≡ store → forecast.geometry ≡ g
     → (segments : List ℕ) → SegmentsJson forecast.geometry forecast.store (sequence_of forecast) 1 forecast.geometry.segments segments
     → ShowsJson g store ((logs_front ++ logs_json g store) ++ recovered_json segments) 0
 shows_forecast g store forecast its same_store same_geometry segments texts =
@@ -49,10 +49,10 @@ shows_forecast g store forecast its same_store same_geometry segments texts =
       inl (
         its.content,
         its.numbers,
-        subst (λ (s : Store). MergesTo s its.content its.numbers) same_store its.merges,
+        subst (λ (s : StoreText). MergesTo s its.content its.numbers) same_store its.merges,
         segments,
         subst (λ (h : Geometry). SegmentsJson h store its.numbers 1 h.segments segments) same_geometry
-            (subst (λ (s : Store). SegmentsJson forecast.geometry s its.numbers 1 forecast.geometry.segments segments) same_store numbered),
+            (subst (λ (s : StoreText). SegmentsJson forecast.geometry s its.numbers 1 forecast.geometry.segments segments) same_store numbered),
         refl,
         refl,
       ),

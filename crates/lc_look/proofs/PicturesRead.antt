@@ -8,7 +8,7 @@ use Rattle.std.proofs.lemmas.Option.{slice_get_within, slice_get-get_or, get_or_
 use Rattle.lc_disk.specs.declared.area.Area.{Ghosts}
 use Rattle.lc_record.specs.declared.geometry.Geometry.{Geometry}
 use Rattle.lc_record.proofs.ListLemmas.{slice_get_some as get-some, slice_get-map_some as get-map}
-use Rattle.lc_model.specs.Merge.{Store}
+use Rattle.lc_model.specs.Merge.{StoreText}
 use Rattle.lc_picture.specs.Picture.{picture_text}
 use Rattle.lc_picture.specs.declared.store_picture.StorePicture.{StorePicture}
 use Rattle.lc_recover.specs.Fault.{IsRefusal}
@@ -144,7 +144,7 @@ module _ {D : Type 0} (a : Ghosts D) where
     }
 
 -- the line of a fault is that of the device, or of the refusal of the merge
-pub stops-draw : (store : Store) (fault : RecoverFault) → ((fault ≡ DeviceFault → ⊥) → IsRefusal store fault)
+pub stops-draw : (store : StoreText) (fault : RecoverFault) → ((fault ≡ DeviceFault → ⊥) → IsRefusal store fault)
     → Stops (stop_text fault) (stop_status fault) ⊎ StopsDump store (stop_text fault) (stop_status fault)
 stops-draw store (BadGeometry area) refused = inr (BadGeometry area, refused (λ is. absurd cc), refl, refl)
 stops-draw store (Gap segment seq) refused = inr (Gap segment seq, refused (λ is. absurd cc), refl, refl)
@@ -191,5 +191,5 @@ pub honest-picture : {D : Type 0} (a : Ghosts D) (g : Geometry) (areas : List D)
 honest-picture a g areas picture found honest =
     let same = found.same honest in
     let of : IsPictureOf g (store_of g (map a.now areas)) (map a.now areas) picture =
-    subst (λ (l : List (List ℕ)). IsPictureOf g (store_of g (map a.now areas)) l picture) same.0 (subst (λ (s : Store). IsPictureOf g s found.bytes picture) same.1 found.of) in
+    subst (λ (l : List (List ℕ)). IsPictureOf g (store_of g (map a.now areas)) l picture) same.0 (subst (λ (s : StoreText). IsPictureOf g s found.bytes picture) same.1 found.of) in
     (picture, of, refl, refl)

@@ -1,7 +1,7 @@
 -- A store is refused in one way alone, and one that is refused does not merge.
 use Rattle.std.proofs.Common.{◌≡◌, ◌∙◌, ℕ, Some, sym, ap, ap₂, arith, inl, inr}
 use Rattle.lc_record.specs.Content.{Content}
-use Rattle.lc_model.specs.Merge.{Store, MergesTo, IsLeast, IsLeastPair, Refuses, MergeFault, BadGeometry, OutOfSegment, Twice, Gap}
+use Rattle.lc_model.specs.Merge.{StoreText, MergesTo, IsLeast, IsLeastPair, Refuses, MergeFault, BadGeometry, OutOfSegment, Twice, Gap}
 use Rattle.lc_model.specs.declared.refusal.Refusal.{Refusal}
 use Rattle.lc_recover.specs.Fault.{IsRefusal}
 use Rattle.lc_recover.specs.declared.fault.RecoverFault.{RecoverFault}
@@ -20,7 +20,7 @@ one_pair Such k l m n a b =
     ]
 
 -- what merges is not refused
-pub not_refused : (store : Store) (content : Content) (numbers : ℕ → ℕ) (fault : MergeFault) → MergesTo store content numbers → Refuses store fault → ⊥
+pub not_refused : (store : StoreText) (content : Content) (numbers : ℕ → ℕ) (fault : MergeFault) → MergesTo store content numbers → Refuses store fault → ⊥
 not_refused store content numbers (BadGeometry area) merges refused = merges.0 area refused.is
 not_refused store content numbers (OutOfSegment area) merges refused = merges.1 area refused.1.is
 not_refused store content numbers (Twice segment seq) merges refused = merges.2.not_twice segment seq refused.2.is
@@ -30,7 +30,7 @@ option_some : {x y : Refusal} → Some x ≡ Some y → x ≡ y
 option_some e = cc
 
 -- what is answered is the fault's refusal
-pub same_refusal : (store : Store) (fault : MergeFault) (found : RecoverFault) (refusal : Refusal) → Refuses store fault → IsRefusal store found → refusal_to found ≡ Some refusal
+pub same_refusal : (store : StoreText) (fault : MergeFault) (found : RecoverFault) (refusal : Refusal) → Refuses store fault → IsRefusal store found → refusal_to found ≡ Some refusal
     → refusal ≡ merge_refusal fault
 same_refusal store (BadGeometry area) (IsOther other) refusal r f is = let same = one_least _ other area f r in sym (option_some is) ∙ ap (λ (n : ℕ). Refusal.BadGeometry n) same
 same_refusal store (BadGeometry area) (IsOutside other) refusal r f is = absurd (f.0 area r.is)

@@ -6,7 +6,7 @@ use Rattle.lc_record.specs.Marks.{counting}
 use Rattle.lc_record.specs.declared.geometry.Geometry.{Geometry}
 use Rattle.lc_record.specs.declared.record.Record.{Record}
 use Rattle.lc_log.specs.LogText.{joined}
-use Rattle.lc_model.specs.Merge.{MergesTo, Store}
+use Rattle.lc_model.specs.Merge.{MergesTo, StoreText}
 use Rattle.lc_recover.specs.Fault.{IsRefusal}
 use Rattle.lc_recover.specs.Forecast.{IsPageBehind}
 use Rattle.lc_recover.specs.Reads.{AreHonest, HaveLengths, store_of}
@@ -27,7 +27,7 @@ abbrev pub log_text : ℕ → List Record → List ℕ
 log_text node records = extent_text node (length records) (length (joined records))
 
 -- the log of each node
-abbrev pub logs_text : Geometry → Store → List ℕ
+abbrev pub logs_text : Geometry → StoreText → List ℕ
 logs_text g store = flat_map (λ node. log_text node (slice_index_or store.logs node [])) (counting 0 g.nodes)
 
 -- Pages
@@ -38,7 +38,7 @@ AreRising [] = Unit {0}
 AreRising (n ∷ ns) = All (λ m. n < m) ns × AreRising ns
 
 -- of the first so many pages of a segment these are the ones that some record is newer than, in order
-pub record AreBehindIn (count : ℕ) (store : Store) (segment : ℕ) (pages : List ℕ) : Type 0 where
+pub record AreBehindIn (count : ℕ) (store : StoreText) (segment : ℕ) (pages : List ℕ) : Type 0 where
   pub rising : AreRising pages
   pub all : (page : ℕ) → Contains pages page ↔ ((page < count) × IsPageBehind store segment page)
 
@@ -51,11 +51,11 @@ abbrev pub behind_text : ℕ → List ℕ → List ℕ
 behind_text segment pages = codes "segment " ++ decimal segment ++ codes " behind" ++ pages_text pages ++ codes "\n"
 
 -- of the first so many pages of a segment
-abbrev pub IsBehindText : ℕ → Store → ℕ → List ℕ → Type 0
+abbrev pub IsBehindText : ℕ → StoreText → ℕ → List ℕ → Type 0
 IsBehindText count store segment text = (pages : List ℕ) × AreBehindIn count store segment pages × (text ≡ behind_text segment pages)
 
 -- of so many segments, the first of which has this number
-abbrev pub BehindTexts : Geometry → Store → ℕ → ℕ → List ℕ → Type 0
+abbrev pub BehindTexts : Geometry → StoreText → ℕ → ℕ → List ℕ → Type 0
 BehindTexts g store segment zero text = text ≡ []
 BehindTexts g store segment (suc more) text =
     (own rest : List ℕ) × IsBehindText g.pages store segment own × BehindTexts g store (segment + 1) more rest × (text ≡ own ++ rest)
@@ -63,18 +63,18 @@ BehindTexts g store segment (suc more) text =
 -- All lines
 
 -- the store merges, and its recovery is printed after the pages that it would write
-abbrev pub ShowsRecovery : Geometry → Store → List ℕ → ℕ → Type 0
+abbrev pub ShowsRecovery : Geometry → StoreText → List ℕ → ℕ → Type 0
 ShowsRecovery g store text status =
     (content : Content) × (numbers : ℕ → ℕ) × MergesTo store content numbers
     × (behind : List ℕ) × BehindTexts g store 1 g.segments behind × (text ≡ behind ++ recovered_text g numbers) × (status ≡ 0)
 
 -- or why it is not recovered: the refusal of its merge, or that there was no memory to merge it
-abbrev pub ShowsStop : Store → List ℕ → ℕ → Type 0
+abbrev pub ShowsStop : StoreText → List ℕ → ℕ → Type 0
 ShowsStop store text status =
     (fault : RecoverFault) × IsRefusal store fault × (fault ≡ NoMemory → HasPageToWrite store) × (text ≡ stop_text fault) × (status ≡ stop_status fault)
 
 -- after how much is in each log
-abbrev pub Shows : Geometry → Store → List ℕ → ℕ → Type 0
+abbrev pub Shows : Geometry → StoreText → List ℕ → ℕ → Type 0
 Shows g store text status = (rest : List ℕ) × (text ≡ logs_text g store ++ rest) × (ShowsRecovery g store rest status ⊎ ShowsStop store rest status)
 
 -- the last lines are those of a recovery, whatever stands in front of them

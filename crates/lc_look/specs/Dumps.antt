@@ -5,7 +5,7 @@ use Rattle.lc_disk.specs.declared.area.Area.{Ghosts}
 use Rattle.lc_record.specs.Content.{Content}
 use Rattle.lc_record.specs.Marks.{counting}
 use Rattle.lc_record.specs.declared.geometry.Geometry.{Geometry}
-use Rattle.lc_model.specs.Merge.{MergesTo, Store}
+use Rattle.lc_model.specs.Merge.{MergesTo, StoreText}
 use Rattle.lc_model.specs.Stored.{page_bytes}
 use Rattle.lc_page.specs.Page.{sequence_of}
 use Rattle.lc_recover.specs.Fault.{IsRefusal}
@@ -55,13 +55,13 @@ abbrev pub HasThePage : Geometry → ℕ → ℕ → Type 0
 HasThePage g segment page = (1 ≤ segment) × (segment ≤ g.segments) × (page < g.pages)
 
 -- the page of a store that merges, and its slots as this area has them
-abbrev pub ShowsPage : Store → List ℕ → ℕ → ℕ → List ℕ → ℕ → Type 0
+abbrev pub ShowsPage : StoreText → List ℕ → ℕ → ℕ → List ℕ → ℕ → Type 0
 ShowsPage store area segment page text status =
     (content : Content) × (numbers : ℕ → ℕ) × MergesTo store content numbers
     × (text ≡ dump_text page (page_bytes segment page content) ++ slots_text (both_slots area page)) × (status ≡ 0)
 
 -- or the line of the refusal of its merge
-abbrev pub StopsDump : Store → List ℕ → ℕ → Type 0
+abbrev pub StopsDump : StoreText → List ℕ → ℕ → Type 0
 StopsDump store text status = (fault : RecoverFault) × IsRefusal store fault × (text ≡ stop_text fault) × (status ≡ stop_status fault)
 
 -- that there is no such page

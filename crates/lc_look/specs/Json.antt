@@ -6,7 +6,7 @@ use Rattle.lc_record.specs.Marks.{counting}
 use Rattle.lc_record.specs.declared.geometry.Geometry.{Geometry}
 use Rattle.lc_record.specs.declared.record.Record.{Record}
 use Rattle.lc_log.specs.LogText.{joined}
-use Rattle.lc_model.specs.Merge.{MergesTo, Store}
+use Rattle.lc_model.specs.Merge.{MergesTo, StoreText}
 use Rattle.lc_picture.specs.Picture.{pieces}
 use Rattle.lc_recover.specs.Fault.{IsRefusal}
 use Rattle.lc_recover.specs.Reads.{AreHonest, HaveLengths, store_of}
@@ -36,7 +36,7 @@ abbrev pub log_json : ℕ → List Record → List ℕ
 log_json node records = extent_json node (length records) (length (joined records))
 
 -- the log of each node
-abbrev pub logs_json : Geometry → Store → List ℕ
+abbrev pub logs_json : Geometry → StoreText → List ℕ
 logs_json g store = flat_map (λ node. log_json node (slice_index_or store.logs node [])) (counting 0 g.nodes)
 
 -- Segments
@@ -60,11 +60,11 @@ abbrev pub segment_json : ℕ → ℕ → List ℕ → List ℕ
 segment_json segment number pages = segment_front segment number ++ pages_json pages ++ codes "]}"
 
 -- a segment of so many pages: its number, and the pages that some record is newer than
-abbrev pub IsSegmentJson : ℕ → Store → (ℕ → ℕ) → ℕ → List ℕ → Type 0
+abbrev pub IsSegmentJson : ℕ → StoreText → (ℕ → ℕ) → ℕ → List ℕ → Type 0
 IsSegmentJson count store numbers segment text = (pages : List ℕ) × AreBehindIn count store segment pages × (text ≡ segment_json segment (numbers segment) pages)
 
 -- of so many segments, the first of which has this number
-abbrev pub SegmentsJson : Geometry → Store → (ℕ → ℕ) → ℕ → ℕ → List ℕ → Type 0
+abbrev pub SegmentsJson : Geometry → StoreText → (ℕ → ℕ) → ℕ → ℕ → List ℕ → Type 0
 SegmentsJson g store numbers segment zero text = text ≡ []
 SegmentsJson g store numbers segment (suc more) text =
     (own rest : List ℕ) × IsSegmentJson g.pages store numbers segment own × SegmentsJson g store numbers (segment + 1) more rest × (text ≡ own ++ rest)
@@ -101,18 +101,18 @@ abbrev pub unread_json : RecoverFault → List ℕ
 unread_json fault = logs_front ++ stop_json fault
 
 -- the store merges, and its recovery would give these numbers and write these pages
-abbrev pub RecoveryJson : Geometry → Store → List ℕ → ℕ → Type 0
+abbrev pub RecoveryJson : Geometry → StoreText → List ℕ → ℕ → Type 0
 RecoveryJson g store text status =
     (content : Content) × (numbers : ℕ → ℕ) × MergesTo store content numbers
     × (segments : List ℕ) × SegmentsJson g store numbers 1 g.segments segments × (text ≡ recovered_json segments) × (status ≡ 0)
 
 -- or why it is not recovered: the refusal of its merge, or that there was no memory to merge it
-abbrev pub StopJson : Store → List ℕ → ℕ → Type 0
+abbrev pub StopJson : StoreText → List ℕ → ℕ → Type 0
 StopJson store text status =
     (fault : RecoverFault) × IsRefusal store fault × (fault ≡ NoMemory → HasPageToWrite store) × (text ≡ stop_json fault) × (status ≡ stop_status fault)
 
 -- after how much is in each log
-abbrev pub ShowsJson : Geometry → Store → List ℕ → ℕ → Type 0
+abbrev pub ShowsJson : Geometry → StoreText → List ℕ → ℕ → Type 0
 ShowsJson g store text status =
     (rest : List ℕ) × (text ≡ (logs_front ++ logs_json g store) ++ rest) × (RecoveryJson g store rest status ⊎ StopJson store rest status)
 
@@ -122,7 +122,7 @@ TellsUnread fault text status = (text ≡ unread_json fault) × (status ≡ stop
 
 -- whatever the areas: what is printed of some store, or why none was read
 abbrev pub EndsJson : Geometry → List ℕ → ℕ → Type 0
-EndsJson g text status = ((store : Store) × ShowsJson g store text status) ⊎ ((fault : RecoverFault) × TellsUnread fault text status)
+EndsJson g text status = ((store : StoreText) × ShowsJson g store text status) ⊎ ((fault : RecoverFault) × TellsUnread fault text status)
 
 -- a device has failed, or there was no memory, before they were read
 abbrev pub IsUnread : List ℕ → ℕ → Type 0

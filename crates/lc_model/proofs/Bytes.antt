@@ -3,7 +3,7 @@ use Rattle.std.proofs.Common.{◌≡◌, ◌≢◌, ◌⊎◌, ℕ, zero, suc, B
 use Rattle.std.specs.Prelude.{slice_get, if◌then◌else◌}
 use Rattle.std.proofs.lemmas.List.Elements.{All-head, All-tail}
 use Rattle.lc_record.specs.Content.{Content, put, on_segment, segment_of}
-use Rattle.lc_record.specs.Transaction.{Written, Marks, all_set, writes_on}
+use Rattle.lc_record.specs.Transaction.{ByteWrite, Marks, all_set, writes_on}
 use Rattle.lc_record.specs.declared.record.RangeData.{RangeData}
 use Rattle.lc_record.specs.Recorded.{laid}
 use Rattle.std.specs.Option.{option_or}
@@ -118,10 +118,10 @@ byte_from-unset (suc offset) (item ∷ items) [] place set unset = absurd (true�
 byte_from-unset (suc offset) (item ∷ items) (mark ∷ marks) zero set unset = refl
 byte_from-unset (suc offset) (item ∷ items) (mark ∷ marks) (suc place) set unset = byte_from-unset offset (item ∷ items) marks place set unset
 
-pub byte-unset : (segment place : ℕ) (marks : Marks) (ws : List Written) (content : Content) → All (λ (w : Written). IsTrue (all_set w.offset (length w.bytes) (segment_of w.segment marks))) ws → all_set place 1 (segment_of segment marks) ≡ false → byte_at segment place (writes_on ws content) ≡ byte_at segment place content
+pub byte-unset : (segment place : ℕ) (marks : Marks) (ws : List ByteWrite) (content : Content) → All (λ (w : ByteWrite). IsTrue (all_set w.offset (length w.bytes) (segment_of w.segment marks))) ws → all_set place 1 (segment_of segment marks) ≡ false → byte_at segment place (writes_on ws content) ≡ byte_at segment place content
 byte-unset segment place marks [] content set unset = refl
 byte-unset segment place marks (w ∷ ws) content set unset =
-    let Set : Written → Type 0 = λ (v : Written). IsTrue (all_set v.offset (length v.bytes) (segment_of v.segment marks)) in
+    let Set : ByteWrite → Type 0 = λ (v : ByteWrite). IsTrue (all_set v.offset (length v.bytes) (segment_of v.segment marks)) in
     byte-unset segment place marks ws (on_segment w.segment (put w.offset w.bytes) content) (All-tail Set w ws set) unset
     ∙ byte-change segment place w.segment w.offset w.bytes content
     ∙ (elim (w.segment == segment) as (λ b. (w.segment == segment) ≡ b → over_byte (if b then byte_from w.offset w.bytes place else None) (byte_at segment place content) ≡ byte_at segment place content) [

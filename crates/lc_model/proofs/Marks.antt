@@ -2,7 +2,7 @@
 use Rattle.std.proofs.Common.{◌≡◌, ℕ, zero, suc, true, false, List, [], ◌∷◌, map, length, replicate, refl, sym, ◌∙◌, ap, true≢false, arith, ◌<◌, ◌≤◌, inl, inr}
 use Rattle.std.proofs.lemmas.List.Elements.{All-nil}
 use Rattle.lc_record.specs.Content.{put, segment_of}
-use Rattle.lc_record.specs.Transaction.{Transaction, Written, IsWellFormed, is_member, locks, all_set}
+use Rattle.lc_record.specs.Transaction.{Transaction, ByteWrite, IsWellFormed, is_member, locks, all_set}
 use Rattle.lc_record.specs.Geometry.{segment_len}
 use Rattle.lc_record.specs.declared.geometry.Geometry.{Geometry}
 use Rattle.lc_record.specs.Marks.{stretches, ranges, ascending, no_marks, marked, written}
@@ -34,8 +34,8 @@ none_set_in (suc (suc i)) place (suc n) k = none_set_in (suc i) place n k
 pub well-new : (g : Geometry) (node thread : ℕ) (segments reading : List ℕ) → IsWellFormed (record { node = node; thread = thread; locked = segments; reading = reading; marks = no_marks g; writes = [] })
 well-new g node thread segments reading = record {
   set_locked = λ segment place set. absurd (true≢false (sym set ∙ none_set_in segment place g.segments (segment_len g)));
-  write_locked = All-nil (λ (v : Written). _);
-  write_set = All-nil (λ (v : Written). _);
+  write_locked = All-nil (λ (v : ByteWrite). _);
+  write_set = All-nil (λ (v : ByteWrite). _);
 }
 
 shape-replicate : (n k : ℕ) → map length (replicate n (replicate k false)) ≡ replicate n k

@@ -15,7 +15,7 @@ use Rattle.std.proofs.lemmas.List.Elements.{All-nil, All-cons, All-head, All-tai
 use Rattle.std.proofs.lemmas.List.{get_or_default as get_or-default}
 use Rattle.lc_record.specs.Content.{Content, put, on_segment, segment_of}
 use Rattle.lc_record.proofs.LockLemmas.{meet_locks}
-use Rattle.lc_record.specs.Transaction.{Transaction, Written, Marks, Meet, IsWellFormed, all_set, locks, writes_on, effect, effects}
+use Rattle.lc_record.specs.Transaction.{Transaction, ByteWrite, Marks, Meet, IsWellFormed, all_set, locks, writes_on, effect, effects}
 use Rattle.lc_record.specs.declared.record.Record.{Record}
 use Rattle.lc_record.specs.declared.record.Lock.{Lock}
 use Rattle.lc_record.specs.declared.record.RangeData.{RangeData}
@@ -49,7 +49,7 @@ record Agree (t : Transaction) (numbers others : ℕ → ℕ) (content other : C
   same_segments : (segment : ℕ) → locks t segment ≡ true → segment_of segment content ≡ segment_of segment other
 
 -- writes act on each segment by itself
-writes-same : (segment : ℕ) (ws : List Written) (content other : Content) → segment_of segment content ≡ segment_of segment other → segment_of segment (writes_on ws content) ≡ segment_of segment (writes_on ws other)
+writes-same : (segment : ℕ) (ws : List ByteWrite) (content other : Content) → segment_of segment content ≡ segment_of segment other → segment_of segment (writes_on ws content) ≡ segment_of segment (writes_on ws other)
 writes-same segment [] content other same = same
 writes-same segment (w ∷ ws) content other same =
     writes-same segment ws (on_segment w.segment (put w.offset w.bytes) content) (on_segment w.segment (put w.offset w.bytes) other)
@@ -65,10 +65,10 @@ writes-same segment (w ∷ ws) content other same =
     ] refl)
 
 -- writes to locked segments leave the others
-writes-unlocked : (t : Transaction) (segment : ℕ) (ws : List Written) (content : Content) → All (λ (w : Written). IsTrue (locks t w.segment)) ws → locks t segment ≡ false → segment_of segment (writes_on ws content) ≡ segment_of segment content
+writes-unlocked : (t : Transaction) (segment : ℕ) (ws : List ByteWrite) (content : Content) → All (λ (w : ByteWrite). IsTrue (locks t w.segment)) ws → locks t segment ≡ false → segment_of segment (writes_on ws content) ≡ segment_of segment content
 writes-unlocked t segment [] content locked free = refl
 writes-unlocked t segment (w ∷ ws) content locked free =
-    let Locked : Written → Type 0 = λ (v : Written). IsTrue (locks t v.segment) in
+    let Locked : ByteWrite → Type 0 = λ (v : ByteWrite). IsTrue (locks t v.segment) in
     let differ : segment ≢ w.segment = λ is. true≢false (sym (All-head Locked w ws locked) ∙ subst (λ (s : ℕ). locks t s ≡ false) is free) in
     writes-unlocked t segment ws (on_segment w.segment (put w.offset w.bytes) content) (All-tail Locked w ws locked) free
     ∙ segment_of-other segment w.segment (put w.offset w.bytes) content differ

@@ -12,7 +12,7 @@ use Rattle.lc_record.specs.Newest.{number_or_zero, byte_of, has_byte, IsNewest, 
 use Rattle.lc_record.proofs.ListLemmas.{slice_get_some as get-some}
 use Rattle.lc_model.specs.Merging.{byte_at}
 use Rattle.lc_model.proofs.Bytes.{same-bytes}
-use Rattle.lc_model.specs.Merge.{Page, Store, all_records, has_number, IsMerged}
+use Rattle.lc_model.specs.Merge.{Page, StoreText, all_records, has_number, IsMerged}
 use Rattle.lc_model.proofs.Visible.{count-cons, contains-count}
 use Rattle.lc_model.proofs.Numbers.{part-length}
 use Rattle.lc_model.proofs.Result.{number-counts}
@@ -86,7 +86,7 @@ part-times (suc (suc i)) (x ∷ xs) (y ∷ ys) same =
     let others : map length xs ≡ map (λ (ps : List Page). length ps * 256) ys = cc in
     part-times (suc i) xs ys others
 
-pub one-content : (store : Store) (one two : Content) (numbers others : ℕ → ℕ) → IsMerged store one numbers → IsMerged store two others → one ≡ two
+pub one-content : (store : StoreText) (one two : Content) (numbers others : ℕ → ℕ) → IsMerged store one numbers → IsMerged store two others → one ≡ two
 one-content store one two numbers others first second =
     let shapes : map length one ≡ map length two = first.shape ∙ sym second.shape in
     same-bytes one two (shape-length one two shapes)
@@ -108,6 +108,6 @@ one-content store one two numbers others first second =
           slice_get_past (segment_of segment one) place past ∙ sym (slice_get_past (segment_of segment two) place past_two)
     ])
 
-pub one-result : (store : Store) (one two : Content) (numbers others : ℕ → ℕ) → IsMerged store one numbers → IsMerged store two others → (one ≡ two) × ((segment : ℕ) → 1 ≤ segment → segment ≤ length store.pages → numbers segment ≡ others segment)
+pub one-result : (store : StoreText) (one two : Content) (numbers others : ℕ → ℕ) → IsMerged store one numbers → IsMerged store two others → (one ≡ two) × ((segment : ℕ) → 1 ≤ segment → segment ≤ length store.pages → numbers segment ≡ others segment)
 one-result store one two numbers others first second =
     (one-content store one two numbers others first second, λ segment some last. first.counted segment some last ∙ sym (second.counted segment some last))

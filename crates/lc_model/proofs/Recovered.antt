@@ -20,7 +20,7 @@ use Rattle.lc_record.proofs.ListLemmas.{slice_get_some as get-some, slice_get-ta
 use Rattle.lc_model.specs.Merging.{byte_at, counted_all}
 use Rattle.lc_model.proofs.Bytes.{same-items}
 use Rattle.lc_model.proofs.Keeps.{sound-recovered, sound-first, sound-phase, up-cut}
-use Rattle.lc_model.specs.Merge.{Page, Store, greatest, all_records, page_number, record_number, IsMerged}
+use Rattle.lc_model.specs.Merge.{Page, StoreText, greatest, all_records, page_number, record_number, IsMerged}
 use Rattle.lc_model.specs.Stored.{Disks, Fits, IsImage, IsOnPages, Stands, base, up_to, page_bytes}
 use Rattle.lc_model.specs.Recovered.{HasByte, IsBehind, AreRenewed, IsReadable, recovered_disks}
 use Rattle.lc_model.proofs.Numbers.{part-replicate, length-shape, numbered-byte, at_most-greatest}
@@ -60,7 +60,7 @@ greatest-record {A} f (x ∷ xs) some =
     ]
 
 -- a page on which no record comes on top has the result's bytes
-still-bytes : (store : Store) (content : Content) (numbers : ℕ → ℕ) (segment page : ℕ) (old : Page) → IsMerged store content numbers → slice_get (segment_of segment store.pages) page ≡ Some old → length old.bytes ≡ 256 → (IsBehind store segment page old → ⊥) → old.bytes ≡ page_bytes segment page content
+still-bytes : (store : StoreText) (content : Content) (numbers : ℕ → ℕ) (segment page : ℕ) (old : Page) → IsMerged store content numbers → slice_get (segment_of segment store.pages) page ≡ Some old → length old.bytes ≡ 256 → (IsBehind store segment page old → ⊥) → old.bytes ≡ page_bytes segment page content
 still-bytes store content numbers segment page old result is long still =
     same-items old.bytes (page_bytes segment page content)
     (λ place. elim (cases_lt place 256) [
@@ -77,7 +77,7 @@ still-bytes store content numbers segment page old result is long still =
     ])
 
 -- some page has come to the segment's number
-renewed-reached : (store : Store) (content : Content) (numbers : ℕ → ℕ) (pages : ℕ → ℕ → Page) (segment count : ℕ) → IsMerged store content numbers → AreRenewed store content numbers pages → 1 ≤ segment → segment ≤ length store.pages → length (segment_of segment store.pages) ≡ count → 1 ≤ count → All (HasByte segment (count * 256)) (all_records store) → (page : ℕ) × (page < count) × (numbers segment ≤ (pages segment page).sequence)
+renewed-reached : (store : StoreText) (content : Content) (numbers : ℕ → ℕ) (pages : ℕ → ℕ → Page) (segment count : ℕ) → IsMerged store content numbers → AreRenewed store content numbers pages → 1 ≤ segment → segment ≤ length store.pages → length (segment_of segment store.pages) ≡ count → 1 ≤ count → All (HasByte segment (count * 256)) (all_records store) → (page : ℕ) × (page < count) × (numbers segment ≤ (pages segment page).sequence)
 renewed-reached store content numbers pages segment count result renewed some last long some_page bytes =
     let number : numbers segment ≡ max (page_number segment store) (record_number segment store) = result.counted segment some last in
     elim (cases_lt (page_number segment store) (record_number segment store)) [
@@ -118,7 +118,7 @@ renewed-reached store content numbers pages segment count result renewed some la
     ]
 
 -- the disks after a recovery fit
-pub renewed-fits : (m : Setting) (earlier : List Transaction) (store : Store) (numbers : ℕ → ℕ) (pages : ℕ → ℕ → Page) → 1 ≤ m.geometry.pages → Sound m.geometry (fresh m.geometry earlier Up) → IsReadable m.geometry store → IsMerged store (effects earlier m.start) numbers → AreRenewed store (effects earlier m.start) numbers pages → Fits m (fresh m.geometry earlier Up) (recovered_disks numbers pages)
+pub renewed-fits : (m : Setting) (earlier : List Transaction) (store : StoreText) (numbers : ℕ → ℕ) (pages : ℕ → ℕ → Page) → 1 ≤ m.geometry.pages → Sound m.geometry (fresh m.geometry earlier Up) → IsReadable m.geometry store → IsMerged store (effects earlier m.start) numbers → AreRenewed store (effects earlier m.start) numbers pages → Fits m (fresh m.geometry earlier Up) (recovered_disks numbers pages)
 renewed-fits m earlier store numbers pages some_pages sound readable result renewed =
     let segments : length store.pages ≡ m.geometry.segments = length-shape m.geometry.segments m.geometry.pages store.pages readable.shape in
     let count_of : (segment : ℕ) → 1 ≤ segment → segment ≤ m.geometry.segments → length (segment_of segment store.pages) ≡ m.geometry.pages =
@@ -170,7 +170,7 @@ renewed-fits m earlier store numbers pages some_pages sound readable result rene
     }
 
 -- what a stop leaves can be read
-pub image-readable : (m : Setting) (s : State) (d : Disks) (cut : Cut) (store : Store) → Fits m s d → IsImage m s d cut store → IsReadable m.geometry store
+pub image-readable : (m : Setting) (s : State) (d : Disks) (cut : Cut) (store : StoreText) → Fits m s d → IsImage m s d cut store → IsReadable m.geometry store
 image-readable m s d cut store fits image =
     let k : Known m s d cut store = known m s d cut store fits image in
     let segments : length store.pages ≡ m.geometry.segments = length-shape m.geometry.segments m.geometry.pages store.pages image.shape in
@@ -199,12 +199,12 @@ image-readable m s d cut store fits image =
           (λ r among. All-contains (HasByte segment (segment_len m.geometry)) (kept_of m s d cut) r bytes among) (all_records store) k.shown.back);
     }
 
-pub recovered : (m : Setting) (s : State) (d : Disks) (cut : Cut) (store : Store) (pages : ℕ → ℕ → Page) → 1 ≤ m.geometry.pages → Fits m s d → IsImage m s d cut store → AreRenewed store (effects (s.earlier ++ kept s.history cut) m.start) (counted_all d.numbers (kept s.history cut)) pages → Fits m (fresh m.geometry (s.earlier ++ kept s.history cut) Up) (recovered_disks (counted_all d.numbers (kept s.history cut)) pages)
+pub recovered : (m : Setting) (s : State) (d : Disks) (cut : Cut) (store : StoreText) (pages : ℕ → ℕ → Page) → 1 ≤ m.geometry.pages → Fits m s d → IsImage m s d cut store → AreRenewed store (effects (s.earlier ++ kept s.history cut) m.start) (counted_all d.numbers (kept s.history cut)) pages → Fits m (fresh m.geometry (s.earlier ++ kept s.history cut) Up) (recovered_disks (counted_all d.numbers (kept s.history cut)) pages)
 recovered m s d cut store pages some_pages fits image renewed =
     renewed-fits m (s.earlier ++ kept s.history cut) store (counted_all d.numbers (kept s.history cut)) pages some_pages (sound-recovered m.geometry s cut fits.sound)
     (image-readable m s d cut store fits image) (merged m s d cut store fits image).1 renewed
 
 -- and so do those after the first recovery
-pub first-recovered : (m : Setting) (store : Store) (numbers : ℕ → ℕ) (pages : ℕ → ℕ → Page) → 1 ≤ m.geometry.pages → IsReadable m.geometry store → IsMerged store m.start numbers → AreRenewed store m.start numbers pages → Fits m (fresh m.geometry [] Up) (recovered_disks numbers pages)
+pub first-recovered : (m : Setting) (store : StoreText) (numbers : ℕ → ℕ) (pages : ℕ → ℕ → Page) → 1 ≤ m.geometry.pages → IsReadable m.geometry store → IsMerged store m.start numbers → AreRenewed store m.start numbers pages → Fits m (fresh m.geometry [] Up) (recovered_disks numbers pages)
 first-recovered m store numbers pages some_pages readable result renewed =
     renewed-fits m [] store numbers pages some_pages (sound-phase m.geometry (first_state m.geometry) Up (sound-first m.geometry) (up-cut m.geometry (record (first_state m.geometry) { phase = Up }) refl)) readable result renewed

@@ -7,7 +7,7 @@ use Rattle.std.proofs.lemmas.Option.{slice_get_within}
 use Rattle.std.proofs.lemmas.List.Elements.{All-weaker, All-contains}
 use Rattle.std.proofs.lemmas.List.{take-append-le as take-front}
 use Rattle.lc_record.specs.Content.{Content, put, on_segment, segment_of}
-use Rattle.lc_record.specs.Transaction.{Transaction, Written, IsWellFormed, writes_on, effects}
+use Rattle.lc_record.specs.Transaction.{Transaction, ByteWrite, IsWellFormed, writes_on, effects}
 use Rattle.lc_record.specs.Geometry.{segment_len}
 use Rattle.lc_record.specs.declared.record.Record.{Record}
 use Rattle.lc_record.proofs.SegmentLemmas.{length-put, shape-on_segment}
@@ -21,7 +21,7 @@ use Rattle.lc_model.proofs.Law.{effects-append}
 use Rattle.lc_model.proofs.Keeps.{All-kept}
 use Rattle.lc_model.proofs.EveryCut.{every_cut_closed, may_cut}
 use Rattle.lc_model.proofs.Merging.{numbers-above, numbers-within, numbers-rise, counted-length}
-use Rattle.lc_model.specs.Merge.{Page, Store, all_records, page_number, record_number, has_number, how_many, IsTwice, IsGap, HasBytes, IsMerged}
+use Rattle.lc_model.specs.Merge.{Page, StoreText, all_records, page_number, record_number, has_number, how_many, IsTwice, IsGap, HasBytes, IsMerged}
 use Rattle.lc_model.specs.Stored.{Disks, Fits, IsImage, IsOnPages, Shows, Stands, base, up_to}
 use Rattle.lc_model.proofs.Visible.{contains-count}
 use Rattle.lc_model.specs.Recovered.{HasByte}
@@ -31,7 +31,7 @@ use Rattle.lc_model.proofs.Shown.{kept_of, proper-well, Shown, shown-of, page-re
 
 -- Shapes
 
-shape-writes_on : (ws : List Written) (content : Content) → map length (writes_on ws content) ≡ map length content
+shape-writes_on : (ws : List ByteWrite) (content : Content) → map length (writes_on ws content) ≡ map length content
 shape-writes_on [] content = refl
 shape-writes_on (w ∷ ws) content =
     shape-writes_on ws (on_segment w.segment (put w.offset w.bytes) content)
@@ -60,7 +60,7 @@ part-known (suc (suc i)) (x ∷ xs) some =
     ((omega arith), (omega (arith, behind.1)))
 
 -- all that the result rests on, said of the records that the cut keeps
-pub record Known (m : Setting) (s : State) (d : Disks) (cut : Cut) (store : Store) : Type 0 where
+pub record Known (m : Setting) (s : State) (d : Disks) (cut : Cut) (store : StoreText) : Type 0 where
   pub closed : IsClosed s.history cut
   pub shown : Shown (kept_of m s d cut) (all_records store) (IsOnPages m.geometry d)
   pub proper : All (IsProper m.geometry) (kept s.history cut)
@@ -72,7 +72,7 @@ pub record Known (m : Setting) (s : State) (d : Disks) (cut : Cut) (store : Stor
   -- what is on the pages is not above their sequences
   pub on_pages : (segment : ℕ) → 1 ≤ segment → segment ≤ m.geometry.segments → (r : Record) → Contains (kept_of m s d cut) r → IsOnPages m.geometry d r → number_or_zero segment r.locks ≤ page_number segment store
 
-pub known : (m : Setting) (s : State) (d : Disks) (cut : Cut) (store : Store) → Fits m s d → IsImage m s d cut store → Known m s d cut store
+pub known : (m : Setting) (s : State) (d : Disks) (cut : Cut) (store : StoreText) → Fits m s d → IsImage m s d cut store → Known m s d cut store
 known m s d cut store fits image =
     let closed : IsClosed s.history cut = every_cut_closed m.geometry s cut fits.sound image.cuts in
     let proper : All (IsProper m.geometry) (kept s.history cut) = All-kept (IsProper m.geometry) s.history cut fits.sound.history_proper in
@@ -99,7 +99,7 @@ known m s d cut store fits image =
 
 -- No number stands twice
 
-pub not_twice : (m : Setting) (s : State) (d : Disks) (cut : Cut) (store : Store) → Known m s d cut store → (segment seq : ℕ) → IsTwice store segment seq → ⊥
+pub not_twice : (m : Setting) (s : State) (d : Disks) (cut : Cut) (store : StoreText) → Known m s d cut store → (segment seq : ℕ) → IsTwice store segment seq → ⊥
 not_twice m s d cut store k segment seq twice =
     let few : how_many segment seq store ≤ length (filter (has_number segment seq) (kept_of m s d cut)) = k.shown.few (has_number segment seq) in
     let one : length (filter (has_number segment seq) (kept_of m s d cut)) ≤ 1 = one-number segment seq (kept_of m s d cut) twice.0 (numbers-rise d.numbers (base m s) segment (kept s.history cut)) in
@@ -107,7 +107,7 @@ not_twice m s d cut store k segment seq twice =
 
 -- No number is missing
 
-pub no_gap : (m : Setting) (s : State) (d : Disks) (cut : Cut) (store : Store) → Known m s d cut store → (segment seq : ℕ) → 1 ≤ segment → segment ≤ m.geometry.segments → IsGap store segment seq → ⊥
+pub no_gap : (m : Setting) (s : State) (d : Disks) (cut : Cut) (store : StoreText) → Known m s d cut store → (segment seq : ℕ) → 1 ≤ segment → segment ≤ m.geometry.segments → IsGap store segment seq → ⊥
 no_gap m s d cut store k segment seq some last gap =
     let r : Record = gap.2.0 in
     let among : Contains (kept_of m s d cut) gap.2.0 = All-contains (Contains (kept_of m s d cut)) (all_records store) gap.2.0 k.shown.back gap.2.1 in
@@ -127,7 +127,7 @@ no_gap m s d cut store k segment seq some last gap =
 
 -- The number
 
-pub number-is : (m : Setting) (s : State) (d : Disks) (cut : Cut) (store : Store) → Fits m s d → IsImage m s d cut store → Known m s d cut store → (segment : ℕ) → 1 ≤ segment → segment ≤ m.geometry.segments → counted_all d.numbers (kept s.history cut) segment ≡ max (page_number segment store) (record_number segment store)
+pub number-is : (m : Setting) (s : State) (d : Disks) (cut : Cut) (store : StoreText) → Fits m s d → IsImage m s d cut store → Known m s d cut store → (segment : ℕ) → 1 ≤ segment → segment ≤ m.geometry.segments → counted_all d.numbers (kept s.history cut) segment ≡ max (page_number segment store) (record_number segment store)
 number-is m s d cut store fits image k segment some last =
     let most : ℕ = counted_all d.numbers (kept s.history cut) segment in
     let pages_known : length (segment_of segment store.pages) ≡ m.geometry.pages = part-replicate segment m.geometry.segments m.geometry.pages store.pages image.shape some last in
@@ -167,7 +167,7 @@ number-counts segment place floor r has =
     let both : (is_some (byte_of segment place r.ranges) ≡ true) × (nat_lt floor (number_or_zero segment r.locks) ≡ true) = both-true (is_some (byte_of segment place r.ranges)) (nat_lt floor (number_or_zero segment r.locks)) has in
     (both.0, ltb-true floor (number_or_zero segment r.locks) both.1)
 
-pub bytes-are : (m : Setting) (s : State) (d : Disks) (cut : Cut) (store : Store) → Fits m s d → IsImage m s d cut store → Known m s d cut store → (segment page : ℕ) (text : Page) → slice_get (segment_of segment store.pages) page ≡ Some text → HasBytes store (effects (kept s.history cut) (base m s)) segment page text
+pub bytes-are : (m : Setting) (s : State) (d : Disks) (cut : Cut) (store : StoreText) → Fits m s d → IsImage m s d cut store → Known m s d cut store → (segment page : ℕ) (text : Page) → slice_get (segment_of segment store.pages) page ≡ Some text → HasBytes store (effects (kept s.history cut) (base m s)) segment page text
 bytes-are m s d cut store fits image k segment page text is offset in_page =
     let in_list : page < length (segment_of segment store.pages) = slice_get_within (segment_of segment store.pages) page text is in
     let some_page : 0 < length (segment_of segment store.pages) = omega (arith, in_list) in
@@ -201,7 +201,7 @@ bytes-are m s d cut store fits image k segment page text is offset in_page =
 
 -- All of it
 
-pub merged : (m : Setting) (s : State) (d : Disks) (cut : Cut) (store : Store) → Fits m s d → IsImage m s d cut store → MayCut m.geometry s cut × IsMerged store (effects (s.earlier ++ kept s.history cut) m.start) (counted_all d.numbers (kept s.history cut))
+pub merged : (m : Setting) (s : State) (d : Disks) (cut : Cut) (store : StoreText) → Fits m s d → IsImage m s d cut store → MayCut m.geometry s cut × IsMerged store (effects (s.earlier ++ kept s.history cut) m.start) (counted_all d.numbers (kept s.history cut))
 merged m s d cut store fits image =
     let k : Known m s d cut store = known m s d cut store fits image in
     let segments : length store.pages ≡ m.geometry.segments = length-shape m.geometry.segments m.geometry.pages store.pages image.shape in

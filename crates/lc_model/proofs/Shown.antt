@@ -21,7 +21,7 @@ use Rattle.lc_model.proofs.Law.{all-numbered_after}
 use Rattle.lc_model.proofs.Lists.{All-from_map}
 use Rattle.lc_model.proofs.Keeps.{All-kept}
 use Rattle.lc_model.proofs.Merging.{kept_records-same, kept_records-of_node, counted-length}
-use Rattle.lc_model.specs.Merge.{Page, Store, all_records, page_number}
+use Rattle.lc_model.specs.Merge.{Page, StoreText, all_records, page_number}
 use Rattle.lc_model.specs.Stored.{Disks, Fits, IsImage, IsOnPages, Shows, base, records_of, acked, stable_number}
 use Rattle.lc_model.proofs.Visible.{contains-filter, contains-parts, all-take-take, all-logs, in-logs, count-drop, logs-count}
 use Rattle.lc_model.specs.Recovered.{HasByte}
@@ -56,7 +56,7 @@ pub record Shown (kept all : List Record) (OnPages : Record → Type 0) : Type 0
   pub there : (r : Record) → Contains kept r → Contains all r ⊎ OnPages r
   pub few : (p : Record → Bool) → length (filter p all) ≤ length (filter p kept)
 
-pub shown-of : (m : Setting) (s : State) (d : Disks) (cut : Cut) (store : Store) → Fits m s d → IsImage m s d cut store → IsClosed s.history cut → Shown (kept_of m s d cut) (all_records store) (IsOnPages m.geometry d)
+pub shown-of : (m : Setting) (s : State) (d : Disks) (cut : Cut) (store : StoreText) → Fits m s d → IsImage m s d cut store → IsClosed s.history cut → Shown (kept_of m s d cut) (all_records store) (IsOnPages m.geometry d)
 shown-of m s d cut store fits image closed =
     let rs : List Record = kept_of m s d cut in
     let node_is : (node : ℕ) → filter (is_from node) (kept_of m s d cut) ≡ take (slice_index cut node) (records_of m s d node) =
@@ -105,7 +105,7 @@ shown-of m s d cut store fits image closed =
 -- Pages
 
 -- each page of the geometry is read
-pub page-read : (m : Setting) (s : State) (d : Disks) (cut : Cut) (store : Store) → IsImage m s d cut store → (segment page : ℕ) → 1 ≤ segment → segment ≤ m.geometry.segments → page < m.geometry.pages → (text : Page) × Shows d segment page text × (text.sequence ≤ page_number segment store)
+pub page-read : (m : Setting) (s : State) (d : Disks) (cut : Cut) (store : StoreText) → IsImage m s d cut store → (segment page : ℕ) → 1 ≤ segment → segment ≤ m.geometry.segments → page < m.geometry.pages → (text : Page) × Shows d segment page text × (text.sequence ≤ page_number segment store)
 page-read m s d cut store image segment page some last within =
     let long : length (segment_of segment store.pages) ≡ m.geometry.pages = part-replicate segment m.geometry.segments m.geometry.pages store.pages image.shape some last in
     let in_list : page < length (segment_of segment store.pages) = omega (arith, within, long) in
@@ -113,7 +113,7 @@ page-read m s d cut store image segment page some last within =
     (text.0, image.pages segment page text.0 text.1, at_most-greatest (λ (p : Page). p.sequence) (segment_of segment store.pages) page text.0 text.1)
 
 -- the number of a record that is on the pages is at most the greatest sequence of a page
-pub on_pages-number : (m : Setting) (s : State) (d : Disks) (cut : Cut) (store : Store) → IsImage m s d cut store → (segment : ℕ) (r : Record) → 1 ≤ segment → segment ≤ m.geometry.segments → HasByte segment (segment_len m.geometry) r → IsOnPages m.geometry d r → number_or_zero segment r.locks ≤ page_number segment store
+pub on_pages-number : (m : Setting) (s : State) (d : Disks) (cut : Cut) (store : StoreText) → IsImage m s d cut store → (segment : ℕ) (r : Record) → 1 ≤ segment → segment ≤ m.geometry.segments → HasByte segment (segment_len m.geometry) r → IsOnPages m.geometry d r → number_or_zero segment r.locks ≤ page_number segment store
 on_pages-number m s d cut store image segment r some last has on =
     elim (cases_lt 0 (number_or_zero segment r.locks)) [
       | inl above ↦
@@ -187,7 +187,7 @@ kept-more m s d cut other sound at_least segment =
     omega (arith, more, counted-length d.numbers (kept s.history cut) segment, counted-length d.numbers (kept s.history other) segment)
 
 -- what is acknowledged is kept by each cut that a stop may make
-pub acked-within : (m : Setting) (s : State) (d : Disks) (cut : Cut) (store : Store) → Fits m s d → IsImage m s d cut store → (segment : ℕ) → stable_number m.geometry s d segment ≤ counted_all d.numbers (kept s.history cut) segment
+pub acked-within : (m : Setting) (s : State) (d : Disks) (cut : Cut) (store : StoreText) → Fits m s d → IsImage m s d cut store → (segment : ℕ) → stable_number m.geometry s d segment ≤ counted_all d.numbers (kept s.history cut) segment
 acked-within m s d cut store fits image segment =
     kept-more m s d (acked m.geometry s) cut fits.sound
     (λ node within. elim (image.cuts node within) [

@@ -15,7 +15,7 @@ use Rattle.lc_record.specs.declared.record.RangeData.{RangeData}
 use Rattle.lc_record.specs.Newest.{number_or_zero, byte_of, has_byte, IsNewest, IsByNumber}
 use Rattle.lc_record.proofs.ListLemmas.{slice_get_some as get-some}
 use Rattle.lc_model.specs.Merging.{byte_at}
-use Rattle.lc_model.specs.Merge.{Page, Store, all_records, page_number, record_number, has_number, how_many, IsTwice, IsGap, IsMerged, MergeFault, BadGeometry, OutOfSegment, Twice, Gap, HasOtherNode, IsOutside, HasOutside, HasGap, AreWithin, AreOnce, Refuses, MergesTo}
+use Rattle.lc_model.specs.Merge.{Page, StoreText, all_records, page_number, record_number, has_number, how_many, IsTwice, IsGap, IsMerged, MergeFault, BadGeometry, OutOfSegment, Twice, Gap, HasOtherNode, IsOutside, HasOutside, HasGap, AreWithin, AreOnce, Refuses, MergesTo}
 use Rattle.lc_model.proofs.Numbers.{all-greatest}
 use Rattle.lc_model.proofs.Result.{number-counts}
 use Rattle.lc_model.proofs.Visible.{log-known, log-of}
@@ -23,17 +23,17 @@ use Rattle.lc_model.proofs.Decided.{Either, in-list, least-found, least_pair-fou
 
 -- The logs
 
-either-other_node : (store : Store) (log : ℕ) → Either (HasOtherNode store log)
+either-other_node : (store : StoreText) (log : ℕ) → Either (HasOtherNode store log)
 either-other_node store log = in-list (λ (r : Record). r.node ≢ log) (slice_index_or store.logs log []) (λ r. either-not (either-same r.node log))
 
-either-outside : (store : Store) (r : Record) → Either (IsOutside store r)
+either-outside : (store : StoreText) (r : Record) → Either (IsOutside store r)
 either-outside store r =
     either-one
     (in-list (λ (lock : Lock). length store.pages < lock.segment) r.locks (λ lock. either-less (length store.pages) lock.segment))
     (in-list (λ (range : RangeData). length (segment_of range.segment store.pages) * 256 < end_of (span_of range)) r.ranges
     (λ range. either-less (length (segment_of range.segment store.pages) * 256) (end_of (span_of range))))
 
-either-has_outside : (store : Store) (log : ℕ) → Either (HasOutside store log)
+either-has_outside : (store : StoreText) (log : ℕ) → Either (HasOutside store log)
 either-has_outside store log = in-list (IsOutside store) (slice_index_or store.logs log []) (either-outside store)
 
 -- Numbers
@@ -61,7 +61,7 @@ one-passes {X} p (x ∷ xs) some =
     ] refl
 
 -- a number of a record that lies within the segments is of one of them, and not above their greatest
-number-known : (store : Store) (segment : ℕ) (r : Record) → AreWithin store → Contains (all_records store) r → 0 < number_or_zero segment r.locks → segment ≤ length store.pages
+number-known : (store : StoreText) (segment : ℕ) (r : Record) → AreWithin store → Contains (all_records store) r → 0 < number_or_zero segment r.locks → segment ≤ length store.pages
 number-known store segment r within among some =
     let log : (k : ℕ) × Contains (slice_index_or store.logs k []) r = log-of store.logs r among in
     let lock : (lock : Lock) × Contains r.locks lock × (lock.segment ≡ segment) = number-lock segment r.locks some in
@@ -72,11 +72,11 @@ number-known store segment r within among some =
       | inr known ↦ known
     ]
 
-number-most : (store : Store) (segment : ℕ) (r : Record) → Contains (all_records store) r → number_or_zero segment r.locks ≤ record_number segment store
+number-most : (store : StoreText) (segment : ℕ) (r : Record) → Contains (all_records store) r → number_or_zero segment r.locks ≤ record_number segment store
 number-most store segment r among =
     All-contains (λ q. number_or_zero segment q.locks ≤ record_number segment store) (all_records store) r (all-greatest (λ (q : Record). number_or_zero segment q.locks) (all_records store)) among
 
-twice-known : (store : Store) (segment seq : ℕ) → AreWithin store → IsTwice store segment seq → (segment ≤ length store.pages) × (seq ≤ record_number segment store)
+twice-known : (store : StoreText) (segment seq : ℕ) → AreWithin store → IsTwice store segment seq → (segment ≤ length store.pages) × (seq ≤ record_number segment store)
 twice-known store segment seq within twice =
     let some : 0 < how_many segment seq store = omega (arith, twice.1) in
     let r : (r : Record) × Contains (all_records store) r × (has_number segment seq r ≡ true) = one-passes (has_number segment seq) (all_records store) some in
@@ -85,10 +85,10 @@ twice-known store segment seq within twice =
     let most : number_or_zero segment r.0.locks ≤ record_number segment store = number-most store segment r.0 r.1 in
     (number-known store segment r.0 within r.1 above, omega (arith, is, most))
 
-either-twice : (store : Store) (segment seq : ℕ) → Either (IsTwice store segment seq)
+either-twice : (store : StoreText) (segment seq : ℕ) → Either (IsTwice store segment seq)
 either-twice store segment seq = either-both (either-less 0 seq) (either-less 1 (how_many segment seq store))
 
-either-gap : (store : Store) (segment seq : ℕ) → Either (HasGap store segment seq)
+either-gap : (store : StoreText) (segment seq : ℕ) → Either (HasGap store segment seq)
 either-gap store segment seq =
     let missing : Either (IsGap store segment seq) =
     either-three (either-less (page_number segment store) seq) (either-same (how_many segment seq store) 0)
@@ -179,14 +179,14 @@ abbrev byte_on : ℕ → ℕ → List Record → Option Page → ℕ
 byte_on segment place rs None = 0
 byte_on segment place rs (Some text) = byte_over segment place text.sequence rs (slice_get text.bytes (place % 256))
 
-abbrev result_byte : Store → ℕ → ℕ → ℕ
+abbrev result_byte : StoreText → ℕ → ℕ → ℕ
 result_byte store segment place = byte_on segment place (all_records store) (slice_get (segment_of segment store.pages) (place / 256))
 
 byte_over-is : (segment place floor : ℕ) (rs : List Record) (before : Option ℕ) (byte : ℕ) → before ≡ Some byte → IsByNumber segment place floor rs before (Some (byte_over segment place floor rs before))
 byte_over-is segment place floor rs None byte is = absurd cc
 byte_over-is segment place floor rs (Some old) byte is = (by_number-found segment place floor rs old).1
 
-result_byte-is : (store : Store) (segment page offset : ℕ) (text : Page) → slice_get (segment_of segment store.pages) page ≡ Some text → length text.bytes ≡ 256 → offset < 256 → IsByNumber segment (page * 256 + offset) text.sequence (all_records store) (slice_get text.bytes offset) (Some (result_byte store segment (page * 256 + offset)))
+result_byte-is : (store : StoreText) (segment page offset : ℕ) (text : Page) → slice_get (segment_of segment store.pages) page ≡ Some text → length text.bytes ≡ 256 → offset < 256 → IsByNumber segment (page * 256 + offset) text.sequence (all_records store) (slice_get text.bytes offset) (Some (result_byte store segment (page * 256 + offset)))
 result_byte-is store segment page offset text is long in_page =
     let place : ℕ = page * 256 + offset in
     let rs : List Record = all_records store in
@@ -247,10 +247,10 @@ content-byte byte (suc i) place segments within =
 
 -- All of it
 
-abbrev Long : Store → Type 0
+abbrev Long : StoreText → Type 0
 Long store = (segment page : ℕ) (text : Page) → slice_get (segment_of segment store.pages) page ≡ Some text → length text.bytes ≡ 256
 
-value : (store : Store) → Long store → AreOnce store → ((segment seq : ℕ) → HasGap store segment seq → ⊥) → IsMerged store (content_from (result_byte store) 1 store.pages) (λ segment. max (page_number segment store) (record_number segment store))
+value : (store : StoreText) → Long store → AreOnce store → ((segment seq : ℕ) → HasGap store segment seq → ⊥) → IsMerged store (content_from (result_byte store) 1 store.pages) (λ segment. max (page_number segment store) (record_number segment store))
 value store long once whole = record {
   not_twice = once;
   no_gap = λ segment seq some last gap. whole segment seq (some, last, gap);
@@ -264,7 +264,7 @@ value store long once whole = record {
   counted = λ segment some last. refl;
 }
 
-pub some-outcome : (store : Store) → Long store → ((fault : MergeFault) × Refuses store fault) ⊎ ((content : Content) × (numbers : ℕ → ℕ) × MergesTo store content numbers)
+pub some-outcome : (store : StoreText) → Long store → ((fault : MergeFault) × Refuses store fault) ⊎ ((content : Content) × (numbers : ℕ → ℕ) × MergesTo store content numbers)
 some-outcome store long =
     elim (least-found (HasOtherNode store) (length store.logs) (either-other_node store) (λ log found. log-known store.logs log found.0 found.1)) [
       | inl found ↦ inl (BadGeometry found.0, found.1)

@@ -3,7 +3,7 @@ use Rattle.std.proofs.Common.{◌≡◌, ◌≤◌, ◌<◌, ℕ, false, IsTrue,
 use Rattle.std.proofs.lemmas.List.Elements.{All-cons, All-nil, All-contains}
 use Rattle.lc_record.specs.declared.record.Record.{Record}
 use Rattle.lc_record.specs.Newest.{IsByNumber, IsNewest, number_or_zero, byte_of, has_byte}
-use Rattle.lc_model.specs.Merge.{Store, IsGap, all_records}
+use Rattle.lc_model.specs.Merge.{StoreText, IsGap, all_records}
 
 abbrev pub Below : ℕ → ℕ → Record → Type 0
 Below segment most r = number_or_zero segment r.locks ≤ most
@@ -13,7 +13,7 @@ pub below_two : (segment most : ℕ) (x y : Record) → Below segment most x →
 below_two segment most x y of_x of_y = All-cons (Below segment most) x (y ∷ []) of_x (All-cons (Below segment most) y [] of_y (All-nil (Below segment most)))
 
 -- a gap has a number above it
-pub gap_below : (store : Store) (segment most seq : ℕ) → All (Below segment most) (all_records store) → IsGap store segment seq → seq < most
+pub gap_below : (store : StoreText) (segment most seq : ℕ) → All (Below segment most) (all_records store) → IsGap store segment seq → seq < most
 gap_below store segment most seq all gap =
     let r : Record = gap.2.0 in
     let at_most : number_or_zero segment r.locks ≤ most = All-contains (Below segment most) (all_records store) r all gap.2.1 in

@@ -17,7 +17,7 @@ use Rattle.lc_model.specs.State.{State, Setting}
 use Rattle.lc_model.specs.Sound.{IsProper}
 use Rattle.lc_model.specs.Merging.{counted_all, is_from}
 use Rattle.lc_model.specs.Stored.{Disks, Fits, IsImage, base, records_of}
-use Rattle.lc_model.specs.Merge.{Store, all_records, AreOwn, AreWithin, MergesTo, IsOutside, IsMerged}
+use Rattle.lc_model.specs.Merge.{StoreText, all_records, AreOwn, AreWithin, MergesTo, IsOutside, IsMerged}
 use Rattle.lc_model.specs.Recovered.{HasByte, IsPartlyRenewed, IsPartlyReset, AreStill, zero_store, zero_content}
 use Rattle.lc_model.proofs.Within.{renewed-merged, reset-merged}
 use Rattle.lc_model.proofs.Zeros.{zeros-merged}
@@ -33,7 +33,7 @@ use Rattle.lc_model.proofs.Result.{Known, known, merged}
 abbrev IsFrom : ℕ → Record → Type 0
 IsFrom node r = is_from node r ≡ true
 
-image-own : (m : Setting) (s : State) (d : Disks) (cut : Cut) (store : Store) → IsImage m s d cut store → AreOwn store
+image-own : (m : Setting) (s : State) (d : Disks) (cut : Cut) (store : StoreText) → IsImage m s d cut store → AreOwn store
 image-own m s d cut store image log found =
     let r : Record = found.0 in
     let shown : log < length store.logs = log-known store.logs log found.0 found.1 in
@@ -134,7 +134,7 @@ records-inside g numbers content (t ∷ ts) proper =
     })
     (records-inside g (counted numbers t) (effect t content) ts (All-tail (IsProper g) t ts proper))
 
-image-within : (m : Setting) (s : State) (d : Disks) (cut : Cut) (store : Store) → Fits m s d → IsImage m s d cut store → AreWithin store
+image-within : (m : Setting) (s : State) (d : Disks) (cut : Cut) (store : StoreText) → Fits m s d → IsImage m s d cut store → AreWithin store
 image-within m s d cut store fits image log found =
     let k : Known m s d cut store = known m s d cut store fits image in
     let segments : length store.pages ≡ m.geometry.segments = length-shape m.geometry.segments m.geometry.pages store.pages image.shape in
@@ -153,12 +153,12 @@ image-within m s d cut store fits image log found =
           omega (arith, ends, range.2, long)
     ]
 
-pub image-merges : (m : Setting) (s : State) (d : Disks) (cut : Cut) (store : Store) → Fits m s d → IsImage m s d cut store → MergesTo store (effects (s.earlier ++ kept s.history cut) m.start) (counted_all d.numbers (kept s.history cut))
+pub image-merges : (m : Setting) (s : State) (d : Disks) (cut : Cut) (store : StoreText) → Fits m s d → IsImage m s d cut store → MergesTo store (effects (s.earlier ++ kept s.history cut) m.start) (counted_all d.numbers (kept s.history cut))
 image-merges m s d cut store fits image = (image-own m s d cut store image, image-within m s d cut store fits image, (merged m s d cut store fits image).1)
 
 -- Within a recovery
 
-outside-same : (store new : Store) (r : Record) → map length new.pages ≡ map length store.pages → IsOutside new r → IsOutside store r
+outside-same : (store new : StoreText) (r : Record) → map length new.pages ≡ map length store.pages → IsOutside new r → IsOutside store r
 outside-same store new r shape outside =
     let count : length new.pages ≡ length store.pages = shape-length new.pages store.pages shape in
     elim outside [
@@ -168,10 +168,10 @@ outside-same store new r shape outside =
           inr (range.0, range.1, (omega (arith, range.2, long)))
     ]
 
-abbrev AreFewer : Store → Store → Type 0
+abbrev AreFewer : StoreText → StoreText → Type 0
 AreFewer store new = (node : ℕ) → (slice_index_or new.logs node [] ≡ slice_index_or store.logs node []) ⊎ (slice_index_or new.logs node [] ≡ [])
 
-log-fewer : (store new : Store) (log : ℕ) (r : Record) → AreFewer store new → Contains (slice_index_or new.logs log []) r → Contains (slice_index_or store.logs log []) r
+log-fewer : (store new : StoreText) (log : ℕ) (r : Record) → AreFewer store new → Contains (slice_index_or new.logs log []) r → Contains (slice_index_or store.logs log []) r
 log-fewer store new log r fewer has =
     elim (fewer log) [
       | inl same ↦ subst (λ (rs : List Record). Contains rs r) same has
@@ -180,19 +180,19 @@ log-fewer store new log r fewer has =
           absurd (omega (arith, here.1))
     ]
 
-fewer-unrefused : (store new : Store) (content : Content) (numbers : ℕ → ℕ) → AreFewer store new → map length new.pages ≡ map length store.pages → MergesTo store content numbers → IsMerged new content numbers → MergesTo new content numbers
+fewer-unrefused : (store new : StoreText) (content : Content) (numbers : ℕ → ℕ) → AreFewer store new → map length new.pages ≡ map length store.pages → MergesTo store content numbers → IsMerged new content numbers → MergesTo new content numbers
 fewer-unrefused store new content numbers fewer shape before merged_new = (
   λ log found. before.0 log (found.0, log-fewer store new log found.0 fewer found.1, found.2),
   λ log found. before.1 log (found.0, log-fewer store new log found.0 fewer found.1, outside-same store new found.0 shape found.2),
   merged_new,
 )
 
-pub renewed-merges : (store new : Store) (content : Content) (numbers : ℕ → ℕ) → MergesTo store content numbers → IsPartlyRenewed store new content numbers → MergesTo new content numbers
+pub renewed-merges : (store new : StoreText) (content : Content) (numbers : ℕ → ℕ) → MergesTo store content numbers → IsPartlyRenewed store new content numbers → MergesTo new content numbers
 renewed-merges store new content numbers before renewed =
     fewer-unrefused store new content numbers (λ node. inl (ap (λ (logs : List (List Record)). slice_index_or logs node []) renewed.logs)) renewed.shape before
     (renewed-merged store new content numbers before.2 renewed)
 
-pub reset-merges : (store new : Store) (content : Content) (numbers : ℕ → ℕ) → MergesTo store content numbers → AreStill store → ((segment : ℕ) → All (HasByte segment (length (segment_of segment store.pages) * 256)) (all_records store)) → IsPartlyReset store new → MergesTo new content numbers
+pub reset-merges : (store new : StoreText) (content : Content) (numbers : ℕ → ℕ) → MergesTo store content numbers → AreStill store → ((segment : ℕ) → All (HasByte segment (length (segment_of segment store.pages) * 256)) (all_records store)) → IsPartlyReset store new → MergesTo new content numbers
 reset-merges store new content numbers before still bytes reset =
     fewer-unrefused store new content numbers reset.logs (ap (map length) reset.pages) before
     (reset-merged store new content numbers before.2 still bytes reset)

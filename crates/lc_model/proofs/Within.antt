@@ -11,7 +11,7 @@ use Rattle.lc_record.specs.declared.record.Record.{Record}
 use Rattle.lc_record.specs.Newest.{number_or_zero, byte_of, has_byte, IsByNumber}
 use Rattle.lc_record.proofs.ListLemmas.{slice_get_some as get-some, slice_get-take as get-take, All-append_left as All-left, All-append_right as All-right, slice_get-drop as get-drop}
 use Rattle.lc_model.specs.Merging.{byte_at}
-use Rattle.lc_model.specs.Merge.{Page, Store, all_records, page_number, record_number, how_many, has_number, greatest, IsMerged}
+use Rattle.lc_model.specs.Merge.{Page, StoreText, all_records, page_number, record_number, how_many, has_number, greatest, IsMerged}
 use Rattle.lc_model.specs.Recovered.{HasByte, IsBehind, IsPartlyRenewed, AreStill, IsPartlyReset}
 use Rattle.lc_model.proofs.Numbers.{part-length, at_most-greatest, greatest-at_most, greatest-all, all-greatest}
 use Rattle.lc_model.proofs.Result.{part-known}
@@ -28,7 +28,7 @@ le_refl_by : {a b : ℕ} → a ≡ b → a ≤ b
 le_refl_by same = omega (arith, same)
 
 -- of no record above the segment's number
-none-above : (store : Store) (numbers : ℕ → ℕ) (segment place : ℕ) → record_number segment store ≤ numbers segment → All (λ r. has_byte segment place (numbers segment) r ≡ false) (all_records store)
+none-above : (store : StoreText) (numbers : ℕ → ℕ) (segment place : ℕ) → record_number segment store ≤ numbers segment → All (λ r. has_byte segment place (numbers segment) r ≡ false) (all_records store)
 none-above store numbers segment place most = λ k d k_in.
     let within : number_or_zero segment (get_or (all_records store) k d).locks ≤ record_number segment store = all-greatest (λ (r : Record). number_or_zero segment r.locks) (all_records store) k d k_in in
     let low : number_or_zero segment (get_or (all_records store) k d).locks ≤ numbers segment = omega (arith, within, most) in
@@ -43,7 +43,7 @@ times-shape (x ∷ xs) (y ∷ ys) same =
     let others : map length xs ≡ map length ys = cc in
     ap (λ n. n * 256 ∷ map (λ (ps : List Page). length ps * 256) xs) first ∙ ap (λ ns. length y * 256 ∷ ns) (times-shape xs ys others)
 
-pub renewed-merged : (store new : Store) (content : Content) (numbers : ℕ → ℕ) → IsMerged store content numbers → IsPartlyRenewed store new content numbers → IsMerged new content numbers
+pub renewed-merged : (store new : StoreText) (content : Content) (numbers : ℕ → ℕ) → IsMerged store content numbers → IsPartlyRenewed store new content numbers → IsMerged new content numbers
 renewed-merged store new content numbers result renewed =
     let records_same : all_records new ≡ all_records store = ap (flat_map (λ log. log)) renewed.logs in
     let count_same : length new.pages ≡ length store.pages = shape-length new.pages store.pages renewed.shape in
@@ -149,7 +149,7 @@ logs-fewer p (o ∷ olds) (n ∷ news) long each =
     omega (arith, first, rest, news_are, olds_are)
 
 -- where no record comes on top, no number of a record is above the pages'
-still-number : (store : Store) (segment : ℕ) → AreStill store → All (HasByte segment (length (segment_of segment store.pages) * 256)) (all_records store) → record_number segment store ≤ page_number segment store
+still-number : (store : StoreText) (segment : ℕ) → AreStill store → All (HasByte segment (length (segment_of segment store.pages) * 256)) (all_records store) → record_number segment store ≤ page_number segment store
 still-number store segment still bytes =
     greatest-all (λ (r : Record). number_or_zero segment r.locks) (page_number segment store) (all_records store)
     (λ k d k_in.
@@ -171,7 +171,7 @@ still-number store segment still bytes =
       | inr low ↦ low
     ])
 
-pub reset-merged : (store new : Store) (content : Content) (numbers : ℕ → ℕ) → IsMerged store content numbers → AreStill store → ((segment : ℕ) → All (HasByte segment (length (segment_of segment store.pages) * 256)) (all_records store)) → IsPartlyReset store new → IsMerged new content numbers
+pub reset-merged : (store new : StoreText) (content : Content) (numbers : ℕ → ℕ) → IsMerged store content numbers → AreStill store → ((segment : ℕ) → All (HasByte segment (length (segment_of segment store.pages) * 256)) (all_records store)) → IsPartlyReset store new → IsMerged new content numbers
 reset-merged store new content numbers result still bytes reset =
     let back : All (Contains (all_records store)) (all_records new) = logs-all (Contains (all_records store)) store.logs new.logs reset.count reset.logs (All-contains_itself (all_records store)) in
     let page_same : (segment : ℕ) → page_number segment new ≡ page_number segment store = λ segment. ap (λ ps. greatest (map (λ (p : Page). p.sequence) (segment_of segment ps))) reset.pages in
@@ -216,7 +216,7 @@ reset-merged store new content numbers result still bytes reset =
     }
 
 -- once each page on which a record came on top is written, none does
-pub still-renewed : (store new : Store) (content : Content) (numbers : ℕ → ℕ) → IsMerged store content numbers → new.logs ≡ store.logs → map length new.pages ≡ map length store.pages → ((segment page : ℕ) (text : Page) → slice_get (segment_of segment new.pages) page ≡ Some text → (text.sequence ≡ numbers segment) ⊎ ((slice_get (segment_of segment store.pages) page ≡ Some text) × (IsBehind store segment page text → ⊥))) → AreStill new
+pub still-renewed : (store new : StoreText) (content : Content) (numbers : ℕ → ℕ) → IsMerged store content numbers → new.logs ≡ store.logs → map length new.pages ≡ map length store.pages → ((segment page : ℕ) (text : Page) → slice_get (segment_of segment new.pages) page ≡ Some text → (text.sequence ≡ numbers segment) ⊎ ((slice_get (segment_of segment store.pages) page ≡ Some text) × (IsBehind store segment page text → ⊥))) → AreStill new
 still-renewed store new content numbers result logs shape each = λ segment page text is behind.
     let records_same : all_records new ≡ all_records store = ap (flat_map (λ log. log)) logs in
     let among : Contains (all_records store) behind.0 = subst (λ (rs : List Record). Contains rs behind.0) records_same behind.1 in

@@ -2,7 +2,7 @@
 use Rattle.std.specs.Prelude.{ℕ, List, [], ◌∷◌, replicate}
 use Rattle.lc_record.specs.declared.record.Record.{Record}
 use Rattle.lc_record.specs.declared.record.RangeData.{RangeData}
-use Rattle.lc_model.specs.Merge.{Page, Store}
+use Rattle.lc_model.specs.Merge.{Page, StoreText}
 
 -- one byte of a segment
 abbrev pub byte_range : ℕ → ℕ → ℕ → RangeData
@@ -21,31 +21,31 @@ abbrev pub page_of : ℕ → List ℕ → Page
 page_of sequence bytes = record { sequence = sequence; bytes = bytes }
 
 -- segment 1 has one page, of two bytes
-abbrev pub of_page : ℕ → List (List Record) → Store
+abbrev pub of_page : ℕ → List (List Record) → StoreText
 of_page sequence logs = record { logs = logs; pages = (page_of sequence (7 ∷ 8 ∷ []) ∷ []) ∷ [] }
 
 -- the second of three is missing
-abbrev pub missing : Store
+abbrev pub missing : StoreText
 missing = of_page 0 ((first_byte 0 1 11 ∷ []) ∷ (first_byte 1 3 13 ∷ []) ∷ [])
 
 -- two of two nodes have the same number
-abbrev pub twice : Store
+abbrev pub twice : StoreText
 twice = of_page 0 ((first_byte 0 1 11 ∷ []) ∷ (first_byte 1 1 12 ∷ []) ∷ [])
 
 -- two of one node have it
-abbrev pub twice_in_one : Store
+abbrev pub twice_in_one : StoreText
 twice_in_one = of_page 0 ((first_byte 0 1 11 ∷ first_byte 0 1 12 ∷ []) ∷ [] ∷ [])
 
 -- two have the same number, each of its own segment
-abbrev pub of_two_segments : Store
+abbrev pub of_two_segments : StoreText
 of_two_segments = of_page 0 ((first_byte 0 1 11 ∷ []) ∷ (under 1 2 1 (byte_range 2 0 12 ∷ []) ∷ []) ∷ [])
 
 -- the page is above both records
-abbrev pub above : Store
+abbrev pub above : StoreText
 above = of_page 5 ((first_byte 0 1 11 ∷ first_byte 0 2 12 ∷ []) ∷ [] ∷ [])
 
 -- the first log has the later record
-abbrev pub crossed : Store
+abbrev pub crossed : StoreText
 crossed = of_page 0 ((first_byte 0 2 12 ∷ []) ∷ (first_byte 1 1 11 ∷ []) ∷ [])
 
 -- each has a byte of both pages: the second and the fourth of segment 1
@@ -56,7 +56,7 @@ abbrev pub the_fourth : Record
 the_fourth = under 1 1 4 (byte_range 1 1 14 ∷ byte_range 1 257 24 ∷ [])
 
 -- one page is below both records, and the other between them
-abbrev pub uneven : Store
+abbrev pub uneven : StoreText
 uneven = record {
   logs = (the_second ∷ []) ∷ (the_fourth ∷ []) ∷ [];
   pages = (page_of 1 (7 ∷ 8 ∷ []) ∷ page_of 3 (7 ∷ 8 ∷ []) ∷ []) ∷ [];
@@ -66,5 +66,5 @@ uneven = record {
 abbrev pub whole_page : List ℕ
 whole_page = 7 ∷ 8 ∷ replicate 254 0
 
-abbrev pub above_whole : Store
+abbrev pub above_whole : StoreText
 above_whole = record { logs = above.logs; pages = (page_of 5 whole_page ∷ []) ∷ [] }

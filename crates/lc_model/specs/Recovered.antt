@@ -5,23 +5,23 @@ use Rattle.lc_record.specs.Geometry.{segment_len}
 use Rattle.lc_record.specs.declared.geometry.Geometry.{Geometry}
 use Rattle.lc_record.specs.declared.record.Record.{Record}
 use Rattle.lc_record.specs.Newest.{number_or_zero, byte_of, has_byte}
-use Rattle.lc_model.specs.Merge.{Page, Store, all_records}
+use Rattle.lc_model.specs.Merge.{Page, StoreText, all_records}
 use Rattle.lc_model.specs.Stored.{Disks, page_bytes}
 
 -- a record above the page's sequence has a byte on it
-abbrev pub IsBehind : Store → ℕ → ℕ → Page → Type 0
+abbrev pub IsBehind : StoreText → ℕ → ℕ → Page → Type 0
 IsBehind store segment page text =
     (r : Record) × Contains (all_records store) r × (offset : ℕ) × (offset < 256)
     × IsTrue (has_byte segment (page * 256 + offset) text.sequence r)
 
 -- such a page is written with its part of the result, under the segment's number; any other stays
-abbrev pub IsRenewed : Store → Content → (ℕ → ℕ) → ℕ → ℕ → Page → Page → Type 0
+abbrev pub IsRenewed : StoreText → Content → (ℕ → ℕ) → ℕ → ℕ → Page → Page → Type 0
 IsRenewed store content numbers segment page old new =
     (IsBehind store segment page old × (new.sequence ≡ numbers segment) × (new.bytes ≡ page_bytes segment page content))
     ⊎ ((IsBehind store segment page old → ⊥) × (new ≡ old))
 
 -- all pages of a store are renewed so
-abbrev pub AreRenewed : Store → Content → (ℕ → ℕ) → (ℕ → ℕ → Page) → Type 0
+abbrev pub AreRenewed : StoreText → Content → (ℕ → ℕ) → (ℕ → ℕ → Page) → Type 0
 AreRenewed store content numbers pages =
     (segment page : ℕ) (old : Page) → slice_get (segment_of segment store.pages) page ≡ Some old →
     IsRenewed store content numbers segment page old (pages segment page)
@@ -38,7 +38,7 @@ recovered_disks numbers pages = record {
 }
 
 -- each page is as before, or is written with its part of the result under the segment's number; the logs are as before
-pub record IsPartlyRenewed (store new : Store) (content : Content) (numbers : ℕ → ℕ) : Type 0 where
+pub record IsPartlyRenewed (store new : StoreText) (content : Content) (numbers : ℕ → ℕ) : Type 0 where
   pub logs : new.logs ≡ store.logs
   pub shape : map length new.pages ≡ map length store.pages
   pub pages : (segment page : ℕ) (text : Page) → slice_get (segment_of segment new.pages) page ≡ Some text →
@@ -46,13 +46,13 @@ pub record IsPartlyRenewed (store new : Store) (content : Content) (numbers : �
       ⊎ ((text.sequence ≡ numbers segment) × (text.bytes ≡ page_bytes segment page content))
 
 -- no record comes on top of a page
-abbrev pub AreStill : Store → Type 0
+abbrev pub AreStill : StoreText → Type 0
 AreStill store =
     (segment page : ℕ) (text : Page) → slice_get (segment_of segment store.pages) page ≡ Some text →
     IsBehind store segment page text → ⊥
 
 -- some logs are empty; the others and the pages are as before
-pub record IsPartlyReset (store new : Store) : Type 0 where
+pub record IsPartlyReset (store new : StoreText) : Type 0 where
   pub pages : new.pages ≡ store.pages
   pub count : length new.logs ≡ length store.logs
   pub logs : (node : ℕ) → (slice_index_or new.logs node [] ≡ slice_index_or store.logs node []) ⊎ (slice_index_or new.logs node [] ≡ [])
@@ -63,13 +63,13 @@ HasByte segment n r =
     0 < number_or_zero segment r.locks → (place : ℕ) × (place < n) × IsTrue (is_some (byte_of segment place r.ranges))
 
 -- a store that can be read: the pages of the geometry, of 256 bytes each, and records whose bytes are on them
-pub record IsReadable (g : Geometry) (store : Store) : Type 0 where
+pub record IsReadable (g : Geometry) (store : StoreText) : Type 0 where
   pub shape : map length store.pages ≡ replicate g.segments g.pages
   pub long : (segment page : ℕ) (text : Page) → slice_get (segment_of segment store.pages) page ≡ Some text → length text.bytes ≡ 256
   pub on_pages : (segment : ℕ) → 1 ≤ segment → segment ≤ g.segments → All (HasByte segment (segment_len g)) (all_records store)
 
 -- a store of zeros
-abbrev pub zero_store : Geometry → Store
+abbrev pub zero_store : Geometry → StoreText
 zero_store g = record {
   logs = replicate g.nodes [];
   pages = replicate g.segments (replicate g.pages (record { sequence = 0; bytes = replicate 256 0 }));

@@ -13,7 +13,7 @@ use Rattle.lc_record.specs.Newest.{number_or_zero, byte_of}
 use Rattle.lc_model.specs.Merging.{sets, counted_all, is_from}
 use Rattle.lc_model.specs.Sound.{Sound}
 use Rattle.lc_model.specs.Stops.{MayCutAt}
-use Rattle.lc_model.specs.Merge.{Page, Store}
+use Rattle.lc_model.specs.Merge.{Page, StoreText}
 
 -- what the disks hold beside the records of the history
 pub record Disks : Type 0 where
@@ -98,7 +98,7 @@ IsLog m s d node number log =
     ⊎ (IsTrue (d.resetting node) × (number ≡ s.ack node) × (log ≡ []))
 
 -- images of all areas, which cut the history so
-pub record IsImage (m : Setting) (s : State) (d : Disks) (cut : Cut) (store : Store) : Type 0 where
+pub record IsImage (m : Setting) (s : State) (d : Disks) (cut : Cut) (store : StoreText) : Type 0 where
   pub nodes : length cut ≡ m.geometry.nodes
   pub cuts : (node : ℕ) → node < m.geometry.nodes → MayCutAt s node (slice_index cut node)
   pub count : length store.logs ≡ m.geometry.nodes

@@ -11,7 +11,7 @@ ghost use Rattle.lc_record.specs.declared.record.Record.{Record};
 ghost use Rattle.lc_record.specs.Newest.{number_or_zero};
 ghost use Rattle.lc_model.specs.Merging.{counted_all};
 ghost use Rattle.lc_model.specs.Stops.{MayCut};
-ghost use Rattle.lc_model.specs.Merge.{Page, Store, all_records, IsMerged};
+ghost use Rattle.lc_model.specs.Merge.{Page, StoreText, all_records, IsMerged};
 ghost use Rattle.lc_model.specs.Stored.{Disks, Fits, IsImage, Shows, Stands, IsOnPages, records_of};
 ghost use Rattle.lc_model.specs.Recovered.{AreRenewed, IsReadable, IsBehind, IsPartlyRenewed, AreStill, IsPartlyReset, HasByte, recovered_disks, zero_store, zero_content};
 ghost use Rattle.lc_model.specs.Moves.{with_begun, with_opened, with_settled, with_reset, with_dropped, page_now};
@@ -20,12 +20,12 @@ use crate::{Event, Reply};
 
 /// What a stop leaves of a store merges, without a refusal, to what the cut keeps; and a stop may cut so.
 pub fn one_result()
-    ensures merged { (m : Setting) (s : State) (d : Disks) (cut : Cut) (store : Store) →
+    ensures merged { (m : Setting) (s : State) (d : Disks) (cut : Cut) (store : StoreText) →
         Fits m s d → IsImage m s d cut store →
         MayCut m.geometry s cut
         × IsMerged store (effects (s.earlier ++ kept s.history cut) m.start)
         (counted_all d.numbers (kept s.history cut)) }
-    ensures one { (store : Store) (content other : Content) (numbers others : ℕ → ℕ) →
+    ensures one { (store : StoreText) (content other : Content) (numbers others : ℕ → ℕ) →
         IsMerged store content numbers → IsMerged store other others →
         (content ≡ other)
         × ((segment : ℕ) → 1 ≤ segment → segment ≤ length store.pages → numbers segment ≡ others segment) }
@@ -70,20 +70,20 @@ pub fn kept_by_moves()
 /// What a recovery leaves of an image fits the machine's next state, also where it began again midway, and what the
 /// first recovery leaves its first.
 pub fn behind_recovery()
-    ensures next { (m : Setting) (s : State) (d : Disks) (cut : Cut) (store : Store) (pages : ℕ → ℕ → Page) →
+    ensures next { (m : Setting) (s : State) (d : Disks) (cut : Cut) (store : StoreText) (pages : ℕ → ℕ → Page) →
         1 ≤ m.geometry.pages → Fits m s d → IsImage m s d cut store →
         AreRenewed store (effects (s.earlier ++ kept s.history cut) m.start)
         (counted_all d.numbers (kept s.history cut)) pages →
         Fits m (fresh m.geometry (s.earlier ++ kept s.history cut) Up)
         (recovered_disks (counted_all d.numbers (kept s.history cut)) pages) }
-    ensures any { (m : Setting) (earlier : List Transaction) (store : Store) (numbers : ℕ → ℕ)
+    ensures any { (m : Setting) (earlier : List Transaction) (store : StoreText) (numbers : ℕ → ℕ)
         (pages : ℕ → ℕ → Page) → 1 ≤ m.geometry.pages → Sound m.geometry (fresh m.geometry earlier Up) →
         IsReadable m.geometry store → IsMerged store (effects earlier m.start) numbers →
         AreRenewed store (effects earlier m.start) numbers pages →
         Fits m (fresh m.geometry earlier Up) (recovered_disks numbers pages) }
-    ensures readable { (m : Setting) (s : State) (d : Disks) (cut : Cut) (store : Store) → Fits m s d →
+    ensures readable { (m : Setting) (s : State) (d : Disks) (cut : Cut) (store : StoreText) → Fits m s d →
         IsImage m s d cut store → IsReadable m.geometry store }
-    ensures first { (m : Setting) (store : Store) (numbers : ℕ → ℕ) (pages : ℕ → ℕ → Page) →
+    ensures first { (m : Setting) (store : StoreText) (numbers : ℕ → ℕ) (pages : ℕ → ℕ → Page) →
         1 ≤ m.geometry.pages → IsReadable m.geometry store → IsMerged store m.start numbers →
         AreRenewed store m.start numbers pages →
         Fits m (fresh m.geometry [] Up) (recovered_disks numbers pages) }
@@ -92,16 +92,16 @@ pub fn behind_recovery()
 /// Each step of a recovery keeps the result, in each image: while pages are written, and, once no record comes on top
 /// of a page, while logs are reset.
 pub fn within_recovery()
-    ensures pages { (store new : Store) (content : Content) (numbers : ℕ → ℕ) → IsMerged store content numbers →
+    ensures pages { (store new : StoreText) (content : Content) (numbers : ℕ → ℕ) → IsMerged store content numbers →
         IsPartlyRenewed store new content numbers → IsMerged new content numbers }
-    ensures still { (store new : Store) (content : Content) (numbers : ℕ → ℕ) → IsMerged store content numbers →
+    ensures still { (store new : StoreText) (content : Content) (numbers : ℕ → ℕ) → IsMerged store content numbers →
         new.logs ≡ store.logs → map length new.pages ≡ map length store.pages →
         ((segment page : ℕ) (text : Page) → slice_get (segment_of segment new.pages) page ≡ Some text →
         (text.sequence ≡ numbers segment)
         ⊎ ((slice_get (segment_of segment store.pages) page ≡ Some text)
         × (IsBehind store segment page text → ⊥))) →
         AreStill new }
-    ensures logs { (store new : Store) (content : Content) (numbers : ℕ → ℕ) → IsMerged store content numbers →
+    ensures logs { (store new : StoreText) (content : Content) (numbers : ℕ → ℕ) → IsMerged store content numbers →
         AreStill store →
         ((segment : ℕ) → All (HasByte segment (length (segment_of segment store.pages) * 256)) (all_records store)) →
         IsPartlyReset store new → IsMerged new content numbers }

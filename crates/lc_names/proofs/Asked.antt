@@ -16,13 +16,13 @@ use Rattle.lc_tx.specs.Tx.{Holds, RunsOn}
 use Rattle.lc_node.specs.Put.{IsUnput}
 use Rattle.lc_node.specs.Ran.{AgreeOn, Bytes}
 use Rattle.lc_node.specs.declared.put.Put.{Put}
-use Rattle.lc_names.specs.Answers.{Alters, Answers, Change, IsOfEntry, WantsMemory, left_by}
+use Rattle.lc_names.specs.Answers.{Alters, Answers, EntryChange, IsOfEntry, WantsMemory, left_by}
 use Rattle.lc_names.specs.Table.{attributes_in, entries_in}
 use Rattle.lc_names.specs.Ask.{IsAsked, IsUnasked}
-use Rattle.lc_names.specs.declared.answer.Answer.{Answer}
+use Rattle.lc_names.specs.declared.name_answer.NameAnswer.{NameAnswer}
 use Rattle.lc_names.specs.declared.ask.Ask.{Ask}
-use Rattle.lc_names.specs.declared.command.Command.{Command}
-use Rattle.lc_names.specs.declared.command.Command.TheVariants.{Create, Find, List as ListAll, Remove, Rename}
+use Rattle.lc_names.specs.declared.name_command.NameCommand.{NameCommand}
+use Rattle.lc_names.specs.declared.name_command.NameCommand.TheVariants.{Create, Find, List as ListAll, Remove, Rename}
 use Rattle.lc_names.specs.declared.name_fault.NameFault.{NameFault}
 use Rattle.lc_names.proofs.Cuts.{long_entries}
 
@@ -41,7 +41,7 @@ some_among name [] some = absurd cc
 some_among name (entry ∷ entries) some = omega arith
 
 -- an answer that wants memory is of a table with bytes
-wants_bytes : (command : Command) (table : List ℕ) → WantsMemory command table → 0 < length table
+wants_bytes : (command : NameCommand) (table : List ℕ) → WantsMemory command table → 0 < length table
 wants_bytes (Create name attributes) table wants = absurd wants
 wants_bytes (Rename from to) table wants = absurd wants
 wants_bytes (Remove name) table wants = absurd wants
@@ -56,14 +56,14 @@ module _ (ask : Ask) (locked : List ℕ) (before mid : Bytes) (found : List ℕ)
   long = ap (λ (s : List ℕ). length s) is ∙ length-take-le ask.len (before 1) fit
 
   -- an entry of the table ends within it
-  pub ends_within : (change : Change) → IsOfEntry (entries_in found) change → 64 * change.0 + 64 ≤ ask.len
+  pub ends_within : (change : EntryChange) → IsOfEntry (entries_in found) change → 64 * change.0 + 64 ≤ ask.len
   ends_within change at = omega (arith, long, long_entries found change.0 at.0)
 
   -- want of memory for the answer is told as it stands
   pub unasked_memory : (fault : TxFault) → fault ≡ NoMemory → WantsMemory ask.command found → IsUnasked ask locked before fault
   unasked_memory fault none wants = inr (inr (inr (inr (none, omega (arith, long, wants_bytes ask.command found wants), fit))))
 
-  pub asked_same : (given : Result Answer NameFault) → Answers ask.command found given found → IsAsked ask locked before given mid
+  pub asked_same : (given : Result NameAnswer NameFault) → Answers ask.command found given found → IsAsked ask locked before given mid
   asked_same given answers = record {
     within = fit;
     left = found;
@@ -72,13 +72,13 @@ module _ (ask : Ask) (locked : List ℕ) (before mid : Bytes) (found : List ℕ)
     others = λ s lock apart. agree s lock;
   }
 
-  module _ (change : Change) (at : IsOfEntry (entries_in found) change) where
+  module _ (change : EntryChange) (at : IsOfEntry (entries_in found) change) where
     laid : put (64 * change.0) change.1 (before 1) ≡ left_by (Some change) found ++ drop ask.len (before 1)
     laid =
         ap (λ (s : List ℕ). put (64 * change.0) change.1 s) (sym (take-append-drop ask.len (before 1)) ∙ ap (λ (s : List ℕ). s ++ drop ask.len (before 1)) (sym is))
         ∙ put-append (64 * change.0) change.1 found (drop ask.len (before 1)) (omega (arith, long, at.1, ends_within change at))
 
-    pub asked_changed : (given : Result Answer NameFault) (after : Bytes) → Answers ask.command found given (left_by (Some change) found)
+    pub asked_changed : (given : Result NameAnswer NameFault) (after : Bytes) → Answers ask.command found given (left_by (Some change) found)
         → after 1 ≡ put (64 * change.0) change.1 (mid 1) → ((s : ℕ) → IsTrue (is_member s locked) → s ≢ 1 → after s ≡ mid s) → IsAsked ask locked before given after
     asked_changed given after answers wrote others = record {
       within = fit;

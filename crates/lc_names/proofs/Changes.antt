@@ -6,18 +6,18 @@ use Rattle.std.specs.List.{AllWithin, HoldsAt}
 use Rattle.std.specs.Str.{bytes_eq}
 use Rattle.std.proofs.lemmas.Bool.{cases_eq, false_from_ne_true}
 use Rattle.std.proofs.lemmas.List.{length-set}
-use Rattle.lc_names.specs.Answers.{Change, Changes, Creates, IsMissed, IsUnrenamed, Removes, Renames, left_by}
+use Rattle.lc_names.specs.Answers.{EntryChange, Changes, Creates, IsMissed, IsUnrenamed, Removes, Renames, left_by}
 use Rattle.lc_names.specs.declared.name_fault.NameFault.{NameFault}
 use Rattle.lc_names.specs.declared.name_fault.NameFault.TheVariants.{BadAttributes, BadName, Exists, Full, NoName, NoTable}
-use Rattle.lc_names.specs.Entry.{AreAttributes, IsClean, IsName, attributes_of, entry_of, free_entry, is_named, name_of}
-use Rattle.lc_names.specs.declared.entry.TheConstants.{NAME}
+use Rattle.lc_names.specs.NameEntry.{AreAttributes, IsClean, IsName, attributes_of, entry_of, free_entry, is_named, name_of}
+use Rattle.lc_names.specs.declared.name_entry.TheConstants.{NAME}
 use Rattle.lc_names.specs.Table.{IsAbsent, IsFreePlace, IsFull, IsNowhere, IsPlaceOf, IsTable, IsUnplaced, LeavesClean, attributes_in, entries_in, entry_at}
 use Rattle.lc_names.proofs.Cuts.{entries_put}
 use Rattle.lc_names.proofs.Entries.{attributes_fit, attributes_of-entry_of, fits_entry, free_unused, length-entry_of, length-free_entry, name_of-entry_of, named_by_text, named_entry, named_entry_is, named_is, named_used, other_by_text, unused_unnamed, used_some, zero_unused}
 use Rattle.lc_names.proofs.Lookups.{IsElsewhereNot, elsewhere_not, holds_left, none_among, nowhere_not, set_gone, set_here, set_other, some_among}
 
 -- a change of the entries is one of the bytes
-pub changes_table : (table : List ℕ) (Leaves : List (List ℕ) → Type 0) (change : Change) → Changes (entries_in table) Leaves change → Leaves (entries_in (left_by (Some change) table))
+pub changes_table : (table : List ℕ) (Leaves : List (List ℕ) → Type 0) (change : EntryChange) → Changes (entries_in table) Leaves change → Leaves (entries_in (left_by (Some change) table))
 changes_table table Leaves change made = subst Leaves (sym (entries_put table change.1 change.0 made.0.1 made.0.0)) made.1
 
 pub place_some : (name : List ℕ) (entries : List (List ℕ)) (place : ℕ) → IsPlaceOf name entries place → attributes_in entries name ≡ Some (attributes_of (entry_at entries place))

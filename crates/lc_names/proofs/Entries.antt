@@ -4,8 +4,8 @@ use Rattle.std.specs.Str.{bytes_eq}
 use Rattle.std.proofs.lemmas.Bool.{and_from, and_left, and_parts, cases_Bool, cases_eq, false_from_ne_true, lt-ltb}
 use Rattle.std.proofs.lemmas.List.{append_assoc, drop-drop, drop-replicate, drop_at, get_or_at, length-append, length-drop, length-replicate, length-take, replicate-append-replicate, take_at}
 use Rattle.std.proofs.lemmas.Slice.Eq.{bytes_eq-Decides}
-use Rattle.lc_names.specs.Entry.{AreAttributes, Fits, IsName, attributes_of, entry_of, filled, free_entry, is_named, is_used, name_of, text_at}
-use Rattle.lc_names.specs.declared.entry.TheConstants.{NAME}
+use Rattle.lc_names.specs.NameEntry.{AreAttributes, Fits, IsName, attributes_of, entry_of, filled, free_entry, is_named, is_used, name_of, text_at}
+use Rattle.lc_names.specs.declared.name_entry.TheConstants.{NAME}
 
 pub named_is : (name entry : List ℕ) → is_named name entry ≡ true → name_of entry ≡ name
 unfolding is_named

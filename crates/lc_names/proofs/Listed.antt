@@ -8,7 +8,7 @@ use Rattle.std.proofs.lemmas.List.{get_or_default}
 use Rattle.std.proofs.lemmas.List.Elements.{recursion_from_All}
 use Rattle.std.proofs.lemmas.Map.Keys.{IsDistinct-cons}
 use Rattle.std.proofs.lemmas.Slice.Eq.{bytes_eq-Decides}
-use Rattle.lc_names.specs.Entry.{attributes_of, is_named, is_used, name_of}
+use Rattle.lc_names.specs.NameEntry.{attributes_of, is_named, is_used, name_of}
 use Rattle.lc_names.specs.Table.{IsTable, attributes_among, names_in}
 use Rattle.lc_names.proofs.Entries.{named_from, named_is, named_used}
 use Rattle.lc_names.proofs.Lookups.{met, none_among, passed}

@@ -3,7 +3,7 @@ use Rattle.std.proofs.Common.{◌≡◌, ◌≢◌, ℕ, zero, suc, ◌<◌, Boo
 use Rattle.std.specs.Prelude.{IsTrue}
 use Rattle.std.proofs.lemmas.Bool.{cases_eq, false_from_ne_true, true≢false}
 use Rattle.std.proofs.lemmas.List.{length-set}
-use Rattle.lc_names.specs.Entry.{Fits, attributes_of, is_named, is_used}
+use Rattle.lc_names.specs.NameEntry.{Fits, attributes_of, is_named, is_used}
 use Rattle.lc_names.specs.Table.{IsTable, attributes_among, entry_at}
 
 pub passed : (name entry : List ℕ) (rest : Option (List ℕ)) → is_named name entry ≡ false → cond (is_named name entry) (Some (attributes_of entry)) rest ≡ rest

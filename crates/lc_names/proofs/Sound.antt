@@ -5,7 +5,7 @@ use Rattle.std.specs.Result.{result_eq}
 use Rattle.std.specs.List.{AllWithin, HoldsAt, range_with_len}
 use Rattle.std.proofs.lemmas.List.FromFn.{get_or-range_with_len, length-range_with_len}
 use Rattle.std.proofs.lemmas.Bool.{cases_Bool, cases_order, true≢false}
-use Rattle.lc_names.specs.Entry.{Fits, is_named, is_used, name_of}
+use Rattle.lc_names.specs.NameEntry.{Fits, is_named, is_used, name_of}
 use Rattle.lc_names.specs.Table.{IsPlaceOf, IsSoundAt, IsTable, IsUnplaced, entry_at}
 use Rattle.lc_names.specs.declared.name_fault.NameFault.{NameFault}
 use Rattle.lc_names.specs.declared.name_fault.NameFault.TheVariants.{BadAttributes, BadName, Exists, Full, NoName, NoTable}

@@ -2,32 +2,32 @@
 use Rattle.std.specs.Prelude.{◌≡◌, ℕ, ◌*◌, ◌<◌, List, length, map, set, Option, Some, None, IsSome, IfSome, Result, Ok, MatchResult}
 use Rattle.std.specs.Global.{Vec}
 use Rattle.lc_record.specs.Content.{put}
-use Rattle.lc_names.specs.Entry.{AreAttributes, IsName}
+use Rattle.lc_names.specs.NameEntry.{AreAttributes, IsName}
 use Rattle.lc_names.specs.Names.{IsCreated, IsRemoved, IsRenamed}
 use Rattle.lc_names.specs.Table.{HasNames, HoldsTable, IsFull, IsTable, LeavesClean, attributes_in, entries_in, names_in}
-use Rattle.lc_names.specs.declared.answer.Answer.{Answer}
-use Rattle.lc_names.specs.declared.answer.Answer.TheVariants.{Attributes, Done, Names}
-use Rattle.lc_names.specs.declared.command.Command.{Command}
-use Rattle.lc_names.specs.declared.command.Command.TheVariants.{Create, Find, List as ListAll, Remove, Rename}
-use Rattle.lc_names.specs.declared.entry.TheConstants.{ENTRY}
+use Rattle.lc_names.specs.declared.name_answer.NameAnswer.{NameAnswer}
+use Rattle.lc_names.specs.declared.name_answer.NameAnswer.TheVariants.{Attributes, Done, Names}
+use Rattle.lc_names.specs.declared.name_command.NameCommand.{NameCommand}
+use Rattle.lc_names.specs.declared.name_command.NameCommand.TheVariants.{Create, Find, List as ListAll, Remove, Rename}
+use Rattle.lc_names.specs.declared.name_entry.TheConstants.{ENTRY}
 use Rattle.lc_names.specs.declared.name_fault.NameFault.{NameFault}
 use Rattle.lc_names.specs.declared.name_fault.NameFault.TheVariants.{BadAttributes, BadName, Exists, Full, NoName, NoTable}
 
 -- the place of an entry that changes, and the bytes that it gets
-abbrev pub Change : Type 0
-Change = ℕ × List ℕ
+abbrev pub EntryChange : Type 0
+EntryChange = ℕ × List ℕ
 
 -- what a change leaves of the bytes of a table
-abbrev pub left_by : Option Change → List ℕ → List ℕ
+abbrev pub left_by : Option EntryChange → List ℕ → List ℕ
 left_by None table = table
 left_by (Some change) table = put (ENTRY * change.0) change.1 table
 
 -- the entry is there, and is a whole one
-abbrev pub IsOfEntry : List (List ℕ) → Change → Type 0
+abbrev pub IsOfEntry : List (List ℕ) → EntryChange → Type 0
 IsOfEntry entries change = (change.0 < length entries) × (length change.1 ≡ ENTRY)
 
 -- a change of an entry, which leaves what it is to leave
-abbrev pub Changes : List (List ℕ) → (List (List ℕ) → Type 0) → Change → Type 0
+abbrev pub Changes : List (List ℕ) → (List (List ℕ) → Type 0) → EntryChange → Type 0
 Changes entries Leaves change = IsOfEntry entries change × Leaves (set entries change.0 change.1)
 
 -- each command: which entries are left where it is done, and where it is refused
@@ -75,7 +75,7 @@ abbrev pub Lists : List (List ℕ) → List (Vec ℕ) → Type 0
 Lists entries names = IsTable entries × (map (λ (name : Vec ℕ). name.items) names ≡ names_in entries)
 
 -- the answer, and the bytes that are left of a table
-abbrev pub Does : Command → List ℕ → Answer → List ℕ → Type 0
+abbrev pub Does : NameCommand → List ℕ → NameAnswer → List ℕ → Type 0
 Does (Create name attributes) table Done left = Creates (entries_in table) name.now attributes.now (entries_in left)
 Does (Rename from to) table Done left = Renames (entries_in table) from.now to.now (entries_in left)
 Does (Remove name) table Done left = Removes (entries_in table) name.now (entries_in left)
@@ -83,27 +83,27 @@ Does (Find name) table (Attributes found) left = (left ≡ table) × Finds (entr
 Does ListAll table (Names names) left = (left ≡ table) × Lists (entries_in table) names.items
 Does command table answer left = ⊥
 
-abbrev pub Refuses : Command → List ℕ → NameFault → Type 0
+abbrev pub Refuses : NameCommand → List ℕ → NameFault → Type 0
 Refuses (Create name attributes) table fault = IsUncreated (entries_in table) name.now attributes.now fault
 Refuses (Rename from to) table fault = IsUnrenamed (entries_in table) from.now to.now fault
 Refuses (Remove name) table fault = IsMissed (entries_in table) name.now fault
 Refuses (Find name) table fault = IsMissed (entries_in table) name.now fault
 Refuses ListAll table fault = (fault ≡ NoTable) × (HoldsTable table → ⊥)
 
-abbrev pub Answers : Command → List ℕ → Result Answer NameFault → List ℕ → Type 0
+abbrev pub Answers : NameCommand → List ℕ → Result NameAnswer NameFault → List ℕ → Type 0
 Answers command table answer left = MatchResult answer (λ given. Does command table given left) (λ fault. (left ≡ table) × Refuses command table fault)
 
 -- the command changes the table: it is done there, with whatever it leaves
-abbrev pub Alters : Command → List ℕ → Type 0
+abbrev pub Alters : NameCommand → List ℕ → Type 0
 Alters command table = (left : List ℕ) × Does command table Done left
 
 -- what is decided: a change of an entry, if there is one, which is done then, and an answer that says what it leaves
-abbrev pub Decides : Command → List ℕ → Option Change × Result Answer NameFault → Type 0
+abbrev pub Decides : NameCommand → List ℕ → Option EntryChange × Result NameAnswer NameFault → Type 0
 Decides command table decided =
     IfSome decided.0 (λ change. IsOfEntry (entries_in table) change × (decided.1 ≡ Ok Done)) × Answers command table decided.1 (left_by decided.0 table)
 
 -- memory is asked for an answer that is given: the attributes of a name that is there, or names
-abbrev pub WantsMemory : Command → List ℕ → Type 0
+abbrev pub WantsMemory : NameCommand → List ℕ → Type 0
 WantsMemory (Find name) table = HoldsTable table × IsSome (attributes_in (entries_in table) name.now)
 WantsMemory ListAll table = HoldsTable table × HasNames (entries_in table)
 WantsMemory command table = ⊥

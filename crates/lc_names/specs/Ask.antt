@@ -6,13 +6,13 @@ use Rattle.lc_tx.specs.declared.tx_fault.TxFault.{TxFault}
 use Rattle.lc_tx.specs.declared.tx_fault.TxFault.TheVariants.{NoMemory, NotLocked, OutOfSegment, ReadOnly, TooManyRanges}
 use Rattle.lc_node.specs.Ran.{AgreeOn, Bytes, Runs}
 use Rattle.lc_names.specs.Answers.{Alters, Answers}
-use Rattle.lc_names.specs.declared.answer.Answer.{Answer}
+use Rattle.lc_names.specs.declared.name_answer.NameAnswer.{NameAnswer}
 use Rattle.lc_names.specs.declared.ask.Ask.{Ask}
 use Rattle.lc_names.specs.declared.ask.TheConstants.{SEGMENT}
 use Rattle.lc_names.specs.declared.name_fault.NameFault.{NameFault}
 
 -- it is answered, and the table is what the answer says; all after it, and all other segments, are as before
-pub record IsAsked (ask : Ask) (locked : List ℕ) (before : Bytes) (answer : Result Answer NameFault) (after : Bytes) : Type 0 where
+pub record IsAsked (ask : Ask) (locked : List ℕ) (before : Bytes) (answer : Result NameAnswer NameFault) (after : Bytes) : Type 0 where
   pub within : ask.len ≤ length (before SEGMENT)
   pub left : List ℕ
   pub answers : Answers ask.command (take ask.len (before SEGMENT)) answer left
@@ -35,5 +35,5 @@ SetsEntry ask set sets = (sets ≡ set) ⊎ ((place : ℕ) × (64 * place + 64 �
 abbrev pub Asks : Ask → Ask → List ℕ → Bytes → Runs → Result (Unit {0}) TxFault → Bytes → Runs → Type 0
 Asks old new locked before set answer after sets =
     MatchResult answer
-    (λ _. (given : Result Answer NameFault) × (new ≡ record old { answer = Some given }) × IsAsked old locked before given after × SetsEntry old set sets)
+    (λ _. (given : Result NameAnswer NameFault) × (new ≡ record old { answer = Some given }) × IsAsked old locked before given after × SetsEntry old set sets)
     (λ fault. (new ≡ old) × IsUnasked old locked before fault × AgreeOn locked after before × (sets ≡ set))

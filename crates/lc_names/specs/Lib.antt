@@ -1,5 +1,5 @@
 pub mod Answers
 pub mod Ask
-pub mod Entry
+pub mod NameEntry
 pub mod Names
 pub mod Table

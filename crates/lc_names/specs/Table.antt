@@ -1,8 +1,8 @@
 -- A table of names: whole entries, one after another.
 use Rattle.std.specs.Prelude.{◌≡◌, ◌⊎◌, ℕ, ◌/◌, ◌<◌, false, cond, List, [], ◌∷◌, length, map, filter, slice_index_or, Option, Some, None, IsTrue}
 use Rattle.std.specs.Simd.{first_chunks}
-use Rattle.lc_names.specs.Entry.{Fits, IsClean, IsName, attributes_of, is_named, is_used, name_of}
-use Rattle.lc_names.specs.declared.entry.TheConstants.{ENTRY}
+use Rattle.lc_names.specs.NameEntry.{Fits, IsClean, IsName, attributes_of, is_named, is_used, name_of}
+use Rattle.lc_names.specs.declared.name_entry.TheConstants.{ENTRY}
 use Rattle.lc_names.specs.declared.name_fault.NameFault.{NameFault}
 use Rattle.lc_names.specs.declared.name_fault.NameFault.TheVariants.{BadAttributes, BadName, Exists, Full, NoName, NoTable}
 

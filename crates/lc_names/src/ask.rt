@@ -2,8 +2,8 @@
 ghost use Rattle.lc_names.specs.Ask.{Asks};
 
 use crate::deciding::decide;
-use crate::entry::ENTRY;
-use crate::{Answer, Command, NameFault};
+use crate::name_entry::ENTRY;
+use crate::{NameAnswer, NameCommand, NameFault};
 use lc_node::{Put, Work};
 use lc_tx::{Images, Tx, TxFault};
 use std::alloc::Global;
@@ -16,8 +16,8 @@ pub const SEGMENT: u32 = 1;
 #[derive(Drop)]
 pub struct Ask<'a> {
     pub len: u32,
-    pub command: Command<'a>,
-    pub answer: Option<Result<Answer, NameFault>>,
+    pub command: NameCommand<'a>,
+    pub answer: Option<Result<NameAnswer, NameFault>>,
 }
 
 impl Work for Ask<'_> {

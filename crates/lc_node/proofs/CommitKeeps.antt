@@ -9,7 +9,7 @@ use Rattle.lc_record.specs.declared.part.Part.{Part}
 use Rattle.lc_record.specs.declared.record.Record.{Record}
 use Rattle.lc_record.proofs.ListLemmas.{slice_get_some as some_at}
 use Rattle.lc_range.specs.RangeSet.{Has}
-use Rattle.lc_stage.specs.declared.view.View.{View}
+use Rattle.lc_stage.specs.declared.stage_view.StageView.{StageView}
 use Rattle.lc_token.specs.declared.token.Token.{Token}
 use Rattle.lc_tx.specs.declared.holders.Holders.TheVariants.{Free}
 use Rattle.lc_tx.specs.declared.image.Image.{Image as Picture}
@@ -21,13 +21,13 @@ use Rattle.lc_node.specs.Attempts.{IsUndone}
 use Rattle.lc_node.specs.Commits.{StagesWork, IsAsBefore, HasPart, TakesPart, shown}
 use Rattle.lc_node.specs.Each.{Each, EachThree}
 use Rattle.lc_node.specs.Held.{lent_side}
-use Rattle.lc_node.specs.Lent.{the_images}
+use Rattle.lc_node.specs.HeldImages.{the_images}
 use Rattle.lc_node.specs.Ran.{Tells}
 use Rattle.lc_applied.specs.AppliedParts.{laid_parts}
 use Rattle.lc_node.specs.Sides.{IsOut, IsReady, IsBack, IsCounted, number_in as number_here}
 use Rattle.lc_node.specs.declared.held.HeldSide.{HeldSide}
 use Rattle.lc_node.specs.declared.lent.LentSlot.{LentSlot}
-use Rattle.lc_node.specs.declared.lent.Lent.{Lent}
+use Rattle.lc_node.specs.declared.lent.HeldImages.{HeldImages}
 use Rattle.lc_node.proofs.Applied.{laid_is_left}
 use Rattle.lc_node.proofs.Laying.{laid_more}
 use Rattle.lc_node.proofs.PartsOf.{number_made, part_is, none_set, lie_inside}
@@ -47,7 +47,7 @@ module _ {D : Type 0} where
 
   -- The images are out
 
-  module _ (sides : List (HeldSide D)) (lent : Lent) (out : Each IsOut sides lent.slots.items) (up : AscendFrom 0 (segments sides)) where
+  module _ (sides : List (HeldSide D)) (lent : HeldImages) (out : Each IsOut sides lent.slots.items) (up : AscendFrom 0 (segments sides)) where
     slots_up : AscendFrom 0 (segments_in lent.slots.items)
     slots_up = subst (AscendFrom 0) (sym (each_map IsOut (λ (h : HeldSide D). h.side.segment) (λ (s : LentSlot). s.segment) sides lent.slots.items out (λ h s is. is.segment))) up
 
@@ -67,7 +67,7 @@ module _ {D : Type 0} where
     }
 
     -- what a slot has after a transaction, beside what it had
-    module _ (new : Lent) (same : the_images.IsSameBeside lent new) where
+    module _ (new : HeldImages) (same : the_images.IsSameBeside lent new) where
       pub record Was (h : HeldSide D) (b : LentSlot) : Type 0 where
         pub a : LentSlot
         pub is_out : IsOut h a
@@ -99,7 +99,7 @@ module _ {D : Type 0} where
           }
 
     -- a transaction that was undone leaves each slot's bytes and holders
-    pub undone_slot : (new : Lent) (undone : IsUndone the_images (segments sides) lent new) (h : HeldSide D) (b : LentSlot) (w : Was new undone.same.beside h b) → (b.image.bytes.items ≡ w.a.image.bytes.items) × (b.image.holders ≡ w.a.image.holders)
+    pub undone_slot : (new : HeldImages) (undone : IsUndone the_images (segments sides) lent new) (h : HeldSide D) (b : LentSlot) (w : Was new undone.same.beside h b) → (b.image.bytes.items ≡ w.a.image.bytes.items) × (b.image.holders ≡ w.a.image.holders)
     undone_slot new undone h b w = elim w.a.number as (λ (o : Option ℕ). w.a.number ≡ o → (b.image.bytes.items ≡ w.a.image.bytes.items) × (b.image.holders ≡ w.a.image.holders)) [
       | None ↦ λ none. let same = hidden_image w.a b w.beside_it none in (ap (λ (i : Picture). i.bytes.items) same, ap (λ (i : Picture). i.holders) same)
       | Some n ↦ λ some. let here : IsHere the_images lent h.side.segment = subst (λ (o : Option ℕ). IsSome o) (sym (w.number ∙ some)) refl in (
@@ -109,7 +109,7 @@ module _ {D : Type 0} where
     ] refl
 
     -- its images may go back
-    pub ready_undone : (new : Lent) → IsUndone the_images (segments sides) lent new → Each IsReady (map lent_side sides) new.slots.items
+    pub ready_undone : (new : HeldImages) → IsUndone the_images (segments sides) lent new → Each IsReady (map lent_side sides) new.slots.items
     ready_undone new undone = record {
       long = (same_beside lent new undone.same.beside).long ∙ (out.long ∙ sym (length-map sides lent_side));
       each = λ k g b g_at b_at. let side = map_got lent_side sides k g g_at in let w = was new undone.same.beside k side.0 b side.1 b_at in
@@ -122,7 +122,7 @@ module _ {D : Type 0} where
     }
 
     -- and the sides are as they were before
-    pub back_undone : (new : Lent) → IsUndone the_images (segments sides) lent new → (after : List (HeldSide D)) → EachThree IsBack (map lent_side sides) new.slots.items after → Each IsAsBefore sides after
+    pub back_undone : (new : HeldImages) → IsUndone the_images (segments sides) lent new → (after : List (HeldSide D)) → EachThree IsBack (map lent_side sides) new.slots.items after → Each IsAsBefore sides after
     back_undone new undone after back = record {
       long = back.long_too ∙ length-map sides lent_side;
       each = λ k h g h_at g_at.
@@ -138,7 +138,7 @@ module _ {D : Type 0} where
 
     -- The record was staged
 
-    module _ {tells : Tells} {node : ℕ} (parts : List (Option Part)) (new : Lent) (before after : View) (w : StagesWork tells node (segments sides) lent parts new before after) where
+    module _ {tells : Tells} {node : ℕ} (parts : List (Option Part)) (new : HeldImages) (before after : StageView) (w : StagesWork tells node (segments sides) lent parts new before after) where
       part_at : (k : ℕ) (h : HeldSide D) (p : Option Part) → slice_get sides k ≡ Some h → slice_get parts k ≡ Some p → p ≡ part_of h.side.segment w.whole
       part_at k h p h_at p_at =
           some_same p (part_of h.side.segment w.whole) (sym p_at ∙ (ap (λ (l : List (Option Part)). slice_get l k) w.parts_are ∙ got_map (λ (s : ℕ). part_of s w.whole) (segments sides) k h.side.segment (got_map (λ (x : HeldSide D). x.side.segment) sides k h h_at)))

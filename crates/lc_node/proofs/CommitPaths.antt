@@ -4,7 +4,7 @@ use Rattle.std.specs.Prelude.{Option, Result, Ok}
 use Rattle.lc_record.specs.Record.{Chain}
 use Rattle.lc_record.specs.declared.part.Part.{Part}
 use Rattle.lc_record.specs.declared.record.Record.{Record}
-use Rattle.lc_stage.specs.declared.view.View.{View}
+use Rattle.lc_stage.specs.declared.stage_view.StageView.{StageView}
 use Rattle.lc_tx.specs.declared.tx_fault.TxFault.{TxFault}
 use Rattle.lc_tx.specs.Images.{bytes_of}
 use Rattle.lc_tx.specs.Prepared.{AreSmall}
@@ -12,11 +12,11 @@ use Rattle.lc_node.specs.Attempts.{IsUnbegun, IsUndone}
 use Rattle.lc_node.specs.Commits.{CommitsWork, IsAsBefore, IsKept, IsKeptTidy, IsUnbegunOn, IsUncommitted, IsUnstaged, StagesWork, TakesOf, bytes_at}
 use Rattle.lc_node.specs.Each.{Each, EachThree}
 use Rattle.lc_node.specs.Held.{lent_side}
-use Rattle.lc_node.specs.Lent.{the_images}
+use Rattle.lc_node.specs.HeldImages.{the_images}
 use Rattle.lc_node.specs.Ran.{AgreeOn, Ran, Runs, Tells}
 use Rattle.lc_node.specs.Sides.{IsOut, IsReady, IsBack, IsCounted, IsRoomier, HasFewParts}
 use Rattle.lc_node.specs.declared.held.HeldSide.{HeldSide}
-use Rattle.lc_node.specs.declared.lent.Lent.{Lent}
+use Rattle.lc_node.specs.declared.lent.HeldImages.{HeldImages}
 use Rattle.lc_node.specs.declared.lent.LentSlot.{LentSlot}
 use Rattle.lc_node.specs.declared.node_fault.NodeFault.{NodeFault}
 use Rattle.lc_node.proofs.CommitKeeps.{are_small, ready_undone, back_undone, ready_counted, takes_parts}
@@ -25,7 +25,7 @@ use Rattle.lc_node.proofs.SideBytes.{back_bytes, out_bytes, out_unbegun}
 use Rattle.lc_node.proofs.Slots.{AscendFrom, ascend_from, each_map, segments_in}
 use Rattle.lc_node.proofs.Standing.{kept_of_roomier, tidy_of_roomier, takes_of_roomier, segments_roomier, segments_takes}
 
-module _ {D : Type 0} (xs ys zs : List (HeldSide D)) (lent : Lent) (segments : List ℕ)
+module _ {D : Type 0} (xs ys zs : List (HeldSide D)) (lent : HeldImages) (segments : List ℕ)
     (same : segments ≡ map (λ (h : HeldSide D). h.side.segment) xs) (up : Chain (λ a b. a < b) (map (λ (h : HeldSide D). h.side.segment) xs))
     (more : Each IsRoomier xs ys) (out : Each IsOut ys lent.slots.items) (gone : zs ≡ map lent_side ys) where
   again : segments ≡ map (λ (h : HeldSide D). h.side.segment) ys
@@ -45,7 +45,7 @@ module _ {D : Type 0} (xs ys zs : List (HeldSide D)) (lent : Lent) (segments : L
   slots_are : map (λ (h : HeldSide D). h.side.segment) xs ≡ segments_in lent.slots.items
   slots_are = sym (segments_roomier xs ys more) ∙ sym (each_map IsOut (λ (h : HeldSide D). h.side.segment) (λ (s : LentSlot). s.segment) ys lent.slots.items out (λ h s is. is.segment))
 
-  pub ran_of : {tells : Tells} {set : Runs} (answer : Result (Unit {0}) TxFault) (new : Lent) → the_images.IsSameBeside lent new → (cs last : List (HeldSide D)) → EachThree IsBack cs new.slots.items last
+  pub ran_of : {tells : Tells} {set : Runs} (answer : Result (Unit {0}) TxFault) (new : HeldImages) → the_images.IsSameBeside lent new → (cs last : List (HeldSide D)) → EachThree IsBack cs new.slots.items last
       → map (λ (h : HeldSide D). h.side.segment) last ≡ map (λ (h : HeldSide D). h.side.segment) xs → Ran tells segments (bytes_of the_images lent) answer (bytes_of the_images new) set
       → Ran tells (map (λ (h : HeldSide D). h.side.segment) xs) (bytes_at xs) answer (bytes_at last) set
   ran_of {tells} {set} answer new beside cs last back of ran =
@@ -63,7 +63,7 @@ module _ {D : Type 0} (xs ys zs : List (HeldSide D)) (lent : Lent) (segments : L
 
   -- The work was undone, or set nothing
 
-  module _ (new : Lent) (undone : IsUndone the_images segments lent new) where
+  module _ (new : HeldImages) (undone : IsUndone the_images segments lent new) where
     of_all : IsUndone the_images (map (λ (h : HeldSide D). h.side.segment) ys) lent new
     of_all = subst (λ (l : List ℕ). IsUndone the_images l lent new) again undone
 
@@ -81,7 +81,7 @@ module _ {D : Type 0} (xs ys zs : List (HeldSide D)) (lent : Lent) (segments : L
 
   -- The record was staged
 
-  module _ {tells : Tells} {node : ℕ} (parts : List (Option Part)) (new : Lent) (before after : View) (w : StagesWork tells node segments lent parts new before after) where
+  module _ {tells : Tells} {node : ℕ} (parts : List (Option Part)) (new : HeldImages) (before after : StageView) (w : StagesWork tells node segments lent parts new before after) where
     pub staged : StagesWork tells node (map (λ (h : HeldSide D). h.side.segment) ys) lent parts new before after
     staged = subst (λ (l : List ℕ). StagesWork tells node l lent parts new before after) again w
 

@@ -4,8 +4,8 @@ use Rattle.std.proofs.Math.ListN.{take}
 use lib.ListN.{get_elem?, get_or-append}
 use Rattle.std.proofs.lemmas.List.{append-nil, take-append-le}
 use Rattle.lc_disk.specs.declared.area.Area.{Ghosts}
-use Rattle.lc_stage.specs.declared.view.View.{View}
-use Rattle.lc_stage.specs.declared.view.Reservation.{Reservation}
+use Rattle.lc_stage.specs.declared.stage_view.StageView.{StageView}
+use Rattle.lc_stage.specs.declared.stage_view.Reservation.{Reservation}
 use Rattle.lc_stage.specs.Staging.{Owns, Agree, AreRecords, IsOneRecord, latest}
 use Rattle.lc_stage.specs.declared.receipt.Receipt.{Receipt}
 use Rattle.lc_node.specs.Receipts.{HasReceipt, Receives}
@@ -29,7 +29,7 @@ pub record Stands (stable : List ℕ) (r : Reservation) : Type 0 where
   pub words : (i : ℕ) → i < length r.words → get_or stable (r.place + i) 0 ≡ get_or r.words i 0
   pub one : IsOneRecord r.words
 
-pub stands : (f c : View) (stable rest : List ℕ) (r : Reservation) → Agree f c → Owns c.receipts r → r.round ≡ length f.past → f.taken ≡ stable ++ rest → f.published ≤ length f.past * 65536 + length stable → Stands stable r
+pub stands : (f c : StageView) (stable rest : List ℕ) (r : Reservation) → Agree f c → Owns c.receipts r → r.round ≡ length f.past → f.taken ≡ stable ++ rest → f.published ≤ length f.past * 65536 + length stable → Stands stable r
 stands f c stable rest r agree own here split low = let x = agree.received r own in let durable = x.2 in let l = x.4 here in let one = (agree.staged r x.0).3 x.1 in
     let of_round : r.round * 65536 ≡ length f.past * 65536 = ap (λ (k : ℕ). k * 65536) here in
     let inside : r.place + length r.words ≤ length stable = omega arith in record {
@@ -43,5 +43,5 @@ pub among_stable : (stable : List ℕ) (r : Reservation) (index : ℕ) → Stand
 among_stable stable r index s front = among stable r.place index r.words front s.one s.inside s.words
 
 -- what a seat receives it has
-pub has_received : (v w : View) (c : Receipt) → Receives v c w → HasReceipt w c
-has_received v w c got = (latest v.mine, (0, ap (λ (u : View). get_elem? u.receipts 0) got.1.1), got.0)
+pub has_received : (v w : StageView) (c : Receipt) → Receives v c w → HasReceipt w c
+has_received v w c got = (latest v.mine, (0, ap (λ (u : StageView). get_elem? u.receipts 0) got.1.1), got.0)

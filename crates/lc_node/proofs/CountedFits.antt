@@ -4,7 +4,7 @@ use Rattle.std.proofs.lemmas.Bool.{lt-ltb}
 use Rattle.std.proofs.lemmas.List.{ext_get_or, get_or-take, get_or-drop, length-take, length-drop}
 use Rattle.std.specs.List.{list_any}
 use Rattle.lc_disk.specs.declared.area.Area.{Ghosts}
-use Rattle.lc_page.specs.declared.entry.Entry.{Entry}
+use Rattle.lc_page.specs.declared.page_entry.PageEntry.{PageEntry}
 use Rattle.lc_page.specs.PageVector.{entry_at, touched_at}
 use Rattle.lc_record.specs.Content.{put}
 use Rattle.lc_record.specs.declared.record.RangeData.{RangeData}
@@ -56,20 +56,20 @@ other_pages (range ∷ ranges) bytes page off =
 
 -- What is kept of a page
 
-is_free : (b : Bool) (seq : ℕ) (entry : Entry) → entry.uncommitted ≡ 0 → (cond b (touched_at entry seq) entry).uncommitted ≡ 0
+is_free : (b : Bool) (seq : ℕ) (entry : PageEntry) → entry.uncommitted ≡ 0 → (cond b (touched_at entry seq) entry).uncommitted ≡ 0
 is_free true seq entry is = is
 is_free false seq entry is = is
 
-is_stable : (b : Bool) (seq : ℕ) (entry : Entry) → entry.stable ≤ seq → (cond b (touched_at entry (seq + 1)) entry).stable ≤ seq + 1
+is_stable : (b : Bool) (seq : ℕ) (entry : PageEntry) → entry.stable ≤ seq → (cond b (touched_at entry (seq + 1)) entry).stable ≤ seq + 1
 is_stable true seq entry is = omega arith
 is_stable false seq entry is = omega arith
 
-is_touched : (b : Bool) (seq : ℕ) (entry : Entry) → entry.touched ≤ seq → (cond b (touched_at entry (seq + 1)) entry).touched ≤ seq + 1
+is_touched : (b : Bool) (seq : ℕ) (entry : PageEntry) → entry.touched ≤ seq → (cond b (touched_at entry (seq + 1)) entry).touched ≤ seq + 1
 is_touched true seq entry is = omega arith
 is_touched false seq entry is = omega arith
 
 module _ {D : Type 0} (a : Ghosts D) (since : ℕ) (area : D) where
-  page_fits : (b : Bool) (seq page : ℕ) (old new : List ℕ) (entry : Entry) → entry.stable ≤ seq → (b ≡ false → page_bytes new page ≡ page_bytes old page)
+  page_fits : (b : Bool) (seq page : ℕ) (old new : List ℕ) (entry : PageEntry) → entry.stable ≤ seq → (b ≡ false → page_bytes new page ≡ page_bytes old page)
       → FitsPage a since area old page entry → FitsPage a since area new page (cond b (touched_at entry (seq + 1)) entry)
   page_fits true seq page old new entry stable same h = record {
     settled_in = h.settled_in;
@@ -86,7 +86,7 @@ pub counted_fits : {D : Type 0} (a : Ghosts D) (since : ℕ) (area : D) (token :
     → FitsToken a since area token bytes → token.seq < 2 ^ 60
     → FitsToken a since area (record token { seq = token.seq + 1; pages = touched_pages ranges (token.seq + 1) token.pages }) (laid_over ranges bytes)
 counted_fits {D} a since area token bytes ranges h next =
-    let new : List Entry = touched_pages ranges (token.seq + 1) token.pages in
+    let new : List PageEntry = touched_pages ranges (token.seq + 1) token.pages in
     let count : length new ≡ length token.pages = length-touched_pages ranges (token.seq + 1) token.pages in
     let laid : length (laid_over ranges bytes) ≡ length bytes = length-laid_over ranges bytes in
     let any : ℕ → Bool = λ page. list_any (is_on page) ranges in
@@ -96,9 +96,9 @@ counted_fits {D} a since area token bytes ranges h next =
       few = omega (arith, h.few);
       room = omega (arith, h.room);
       small = omega arith;
-      free = λ page l. subst (λ (e : Entry). e.uncommitted ≡ 0) (sym (at page l)) (is_free (any page) (token.seq + 1) (entry_at token.pages page) (h.free page (among page l)));
-      stable = λ page l. subst (λ (e : Entry). e.stable ≤ token.seq + 1) (sym (at page l)) (is_stable (any page) token.seq (entry_at token.pages page) (h.stable page (among page l)));
-      touched = λ page l. subst (λ (e : Entry). e.touched ≤ token.seq + 1) (sym (at page l)) (is_touched (any page) token.seq (entry_at token.pages page) (h.touched page (among page l)));
+      free = λ page l. subst (λ (e : PageEntry). e.uncommitted ≡ 0) (sym (at page l)) (is_free (any page) (token.seq + 1) (entry_at token.pages page) (h.free page (among page l)));
+      stable = λ page l. subst (λ (e : PageEntry). e.stable ≤ token.seq + 1) (sym (at page l)) (is_stable (any page) token.seq (entry_at token.pages page) (h.stable page (among page l)));
+      touched = λ page l. subst (λ (e : PageEntry). e.touched ≤ token.seq + 1) (sym (at page l)) (is_touched (any page) token.seq (entry_at token.pages page) (h.touched page (among page l)));
       each = λ page l. subst (FitsPage a since area (laid_over ranges bytes) page) (sym (at page l))
           (page_fits a since area (any page) token.seq page bytes (laid_over ranges bytes) (entry_at token.pages page) (h.stable page (among page l)) (other_pages ranges bytes page) (h.each page (among page l)));
     }

@@ -1,7 +1,7 @@
 -- A flush keeps what a log's type says.
 use Rattle.std.proofs.Common.{◌≡◌, ℕ, ◌+◌, ◌*◌, ◌<◌, ◌≤◌, List, [], ◌++◌, length, sym, ap, subst, ◌∙◌, inl, inr}
 use Rattle.lc_disk.specs.declared.area.Area.{Ghosts}
-use Rattle.lc_stage.specs.declared.view.View.{View}
+use Rattle.lc_stage.specs.declared.stage_view.StageView.{StageView}
 use Rattle.lc_stage.specs.Publishing.{HoldsTaken}
 use Rattle.lc_stage.specs.Seats.{OnlyTakes, publishing}
 use Rattle.std.proofs.lemmas.List.Elements.{All-append}
@@ -21,20 +21,20 @@ pub at_rest : {D : Type 0} (a : Ghosts D) (state : LogState D a) (log : AtRest D
 at_rest a state log room taken stable h is = subst (λ (z : LogState _ a). HasStable a z room taken stable) is h
 
 -- what the flusher's view keeps while it takes and publishes
-pub record Taking (v z : View) : Type 0 where
+pub record Taking (v z : StageView) : Type 0 where
   pub same_room : z.room ≡ v.room
   pub same_past : z.past ≡ v.past
   pub clear : v.ended_cleared ≡ v.ended → z.ended_cleared ≡ z.ended
   pub same_cleared : z.cleared ≡ v.cleared
   pub published : z.published ≡ length v.past * 65536 + length z.taken
 
-pub takes_and_publishes : (v w z : View) → OnlyTakes v w → z ≡ publishing w → Taking v z
-takes_and_publishes v w z takes is = let past : z.past ≡ v.past = ap (λ (y : View). y.past) is ∙ ap (λ (y : View). y.past) takes.1 in record {
-  same_room = ap (λ (y : View). y.room) is ∙ ap (λ (y : View). y.room) takes.1;
+pub takes_and_publishes : (v w z : StageView) → OnlyTakes v w → z ≡ publishing w → Taking v z
+takes_and_publishes v w z takes is = let past : z.past ≡ v.past = ap (λ (y : StageView). y.past) is ∙ ap (λ (y : StageView). y.past) takes.1 in record {
+  same_room = ap (λ (y : StageView). y.room) is ∙ ap (λ (y : StageView). y.room) takes.1;
   same_past = past;
-  clear = λ e. ap (λ (y : View). y.ended_cleared) is ∙ (ap (λ (y : View). y.ended_cleared) takes.1 ∙ (e ∙ sym (ap (λ (y : View). y.ended) is ∙ ap (λ (y : View). y.ended) takes.1)));
-  same_cleared = ap (λ (y : View). y.cleared) is ∙ ap (λ (y : View). y.cleared) takes.1;
-  published = ap (λ (y : View). y.published) is ∙ (λ k. length ((ap (λ (y : View). y.past) takes.1) k) * 65536 + length ((sym (ap (λ (y : View). y.taken) is)) k));
+  clear = λ e. ap (λ (y : StageView). y.ended_cleared) is ∙ (ap (λ (y : StageView). y.ended_cleared) takes.1 ∙ (e ∙ sym (ap (λ (y : StageView). y.ended) is ∙ ap (λ (y : StageView). y.ended) takes.1)));
+  same_cleared = ap (λ (y : StageView). y.cleared) is ∙ ap (λ (y : StageView). y.cleared) takes.1;
+  published = ap (λ (y : StageView). y.published) is ∙ (λ k. length ((ap (λ (y : StageView). y.past) takes.1) k) * 65536 + length ((sym (ap (λ (y : StageView). y.taken) is)) k));
 }
 
 pub records_append : (us ws : List ℕ) → AreRecords us → AreRecords ws → AreRecords (us ++ ws)

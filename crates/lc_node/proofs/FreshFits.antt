@@ -6,7 +6,7 @@ use Rattle.lc_disk.specs.declared.area.Area.{Ghosts}
 use Rattle.lc_page.specs.Page.{Page, slot_at}
 use Rattle.lc_page.specs.PageVector.{entry_at, new_entry}
 use Rattle.lc_page.specs.PageWrite.{IsSettled}
-use Rattle.lc_page.specs.declared.entry.Entry.{Entry}
+use Rattle.lc_page.specs.declared.page_entry.PageEntry.{PageEntry}
 use Rattle.lc_page.proofs.StateLemmas.{clean_settled}
 use Rattle.lc_recover.specs.Reads.{HaveLengths, area_count, area_len}
 use Rattle.lc_recover.specs.Recovered.{RecoveredStore, AreFinished, page_of}
@@ -89,9 +89,9 @@ module _ {D : Type 0} (a : Ghosts D) (r : RecoveredStore D) (lengths : HaveLengt
         few = (let few = r.geometry.few_pages in omega (arith, count, few));
         room = omega (arith, count, segment_long s area got);
         small = whole.small;
-        free = λ page within. ap (λ (e : Entry). e.uncommitted) (entry_is page (known page within));
-        stable = λ page within. omega (arith, ap (λ (e : Entry). e.stable) (entry_is page (known page within)), whole.within page (known page within));
-        touched = λ page within. omega (arith, ap (λ (e : Entry). e.touched) (entry_is page (known page within)), whole.within page (known page within));
+        free = λ page within. ap (λ (e : PageEntry). e.uncommitted) (entry_is page (known page within));
+        stable = λ page within. omega (arith, ap (λ (e : PageEntry). e.stable) (entry_is page (known page within)), whole.within page (known page within));
+        touched = λ page within. omega (arith, ap (λ (e : PageEntry). e.touched) (entry_is page (known page within)), whole.within page (known page within));
         each = λ page within. subst (FitsPage a 0 area (segment_bytes r (s + 1)) page) (sym (entry_is page (known page within))) (fits_page page (known page within));
       }
 

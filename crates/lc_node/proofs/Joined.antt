@@ -9,10 +9,10 @@ use Rattle.lc_stage.specs.Staging.{newcomer}
 use Rattle.lc_stage.specs.declared.seats.CommitSeat.{CommitSeat as Seat}
 use Rattle.lc_record.proofs.ListLemmas.{slice_get_some as stands, All-slice_get as at_each}
 use Rattle.lc_node.specs.Cluster.{IsSeatAt}
-use Rattle.lc_node.specs.Opened.{IsOpened}
+use Rattle.lc_node.specs.OpenedNode.{IsOpened}
 use Rattle.lc_node.specs.declared.cluster.Cluster.{Cluster}
 use Rattle.lc_node.specs.declared.member.Member.{Member}
-use Rattle.lc_node.specs.declared.opening.Opened.{Opened}
+use Rattle.lc_node.specs.declared.opening.OpenedNode.{OpenedNode}
 use Rattle.lc_node.proofs.EachPlace.{each_more}
 
 module _ {A : Type 0} where
@@ -49,7 +49,7 @@ module _ {A : Type 0} where
   each_is P xs each k d within = each k (slice_index_or xs k d) (slice_get-get_or xs k d within)
 
 -- the nodes of a recovered store, and the seats of each
-module _ {D : Type 0} (r : RecoveredStore D) (opened : List (Opened D)) (up : All (IsOpened r) opened) (cluster : Cluster D) (seats : List Seat)
+module _ {D : Type 0} (r : RecoveredStore D) (opened : List (OpenedNode D)) (up : All (IsOpened r) opened) (cluster : Cluster D) (seats : List Seat)
     (members : length cluster.members.items ≡ length opened) (as_many : length seats ≡ length opened)
     (joined : (place : ℕ) (member : Member D) (seat : Seat) → slice_get cluster.members.items place ≡ Some member → slice_get seats place ≡ Some seat
     → slice_get opened place ≡ Some (record { node = member.node; seat = seat })) where

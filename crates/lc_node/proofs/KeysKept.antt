@@ -12,7 +12,7 @@ use Rattle.lc_node.specs.Peers.{place_of}
 use Rattle.lc_node.specs.Receiving.{origin_of}
 use Rattle.lc_node.specs.Spread.{line_of}
 use Rattle.lc_node.specs.Wiring.{HasPeers, end_to, inbox_from}
-use Rattle.lc_node.specs.declared.wiring.Ends.{Ends}
+use Rattle.lc_node.specs.declared.wiring.NodeEnds.{NodeEnds}
 use Rattle.lc_node.proofs.Joined.{each_is}
 use Rattle.lc_node.proofs.LinesClosed.{is_some_of}
 use Rattle.lc_node.proofs.PeerPlaces.{place_within}
@@ -41,24 +41,24 @@ peer_place {B = B} line wired ends same nodes count node peer apart node_in peer
 of_mapped : {A B : Type 0} (f : A → B) (xs ys : List A) → map f ys ≡ map f xs → (k : ℕ) → option_map f (slice_get ys k) ≡ option_map f (slice_get xs k)
 of_mapped f xs ys same k = sym (slice_get-map f ys k) ∙ (ap (λ (l : List _). slice_get l k) same ∙ slice_get-map f xs k)
 
-module _ {P : Type 0} (wired all : List (Ends P)) (each : Each AreOnLines wired all) where
+module _ {P : Type 0} (wired all : List (NodeEnds P)) (each : Each AreOnLines wired all) where
   same_end : (f t : ℕ) → f < length wired → option_map line_of (end_to all f t) ≡ option_map line_of (end_to wired f t)
   same_end f t within =
       let was = stands wired f within in
       let is = stands all f (let l = each.long in omega arith) in
       let on = each.each f was.0 is.0 was.1 is.1 in
-      ap (λ (o : Option (Ends P)). option_map line_of (option_and_then (λ (m : Ends P). slice_get m.to.ends.items (place_of f t)) o)) is.1
+      ap (λ (o : Option (NodeEnds P)). option_map line_of (option_and_then (λ (m : NodeEnds P). slice_get m.to.ends.items (place_of f t)) o)) is.1
       ∙ (of_mapped line_of was.0.to.ends.items is.0.to.ends.items on.to (place_of f t)
-      ∙ ap (λ (o : Option (Ends P)). option_map line_of (option_and_then (λ (m : Ends P). slice_get m.to.ends.items (place_of f t)) o)) (sym was.1))
+      ∙ ap (λ (o : Option (NodeEnds P)). option_map line_of (option_and_then (λ (m : NodeEnds P). slice_get m.to.ends.items (place_of f t)) o)) (sym was.1))
 
   same_inbox : (f t : ℕ) → f < length wired → option_map origin_of (inbox_from all f t) ≡ option_map origin_of (inbox_from wired f t)
   same_inbox f t within =
       let was = stands wired f within in
       let is = stands all f (let l = each.long in omega arith) in
       let on = each.each f was.0 is.0 was.1 is.1 in
-      ap (λ (o : Option (Ends P)). option_map origin_of (option_and_then (λ (m : Ends P). slice_get m.from.ends.items (place_of f t)) o)) is.1
+      ap (λ (o : Option (NodeEnds P)). option_map origin_of (option_and_then (λ (m : NodeEnds P). slice_get m.from.ends.items (place_of f t)) o)) is.1
       ∙ (of_mapped origin_of was.0.from.ends.items is.0.from.ends.items on.from (place_of f t)
-      ∙ ap (λ (o : Option (Ends P)). option_map origin_of (option_and_then (λ (m : Ends P). slice_get m.from.ends.items (place_of f t)) o)) (sym was.1))
+      ∙ ap (λ (o : Option (NodeEnds P)). option_map origin_of (option_and_then (λ (m : NodeEnds P). slice_get m.from.ends.items (place_of f t)) o)) (sym was.1))
 
   pub still_wired : (nodes : ℕ) → length wired ≡ nodes → AreWiredAs nodes wired → AreWiredAs nodes all
   still_wired nodes count w = record {
@@ -78,12 +78,12 @@ module _ {P : Type 0} (posts : List (Post P)) where
   pub wired_long : length (wired_in posts) ≡ length posts
   wired_long = length-map posts (λ (post : Post P). key_of post.to)
 
-  pub on_lines_of : (all : List (Ends P)) → length all ≡ length posts → ((k : ℕ) (ends : Ends P) → slice_get all k ≡ Some ends → (post : Post P) → slice_get posts k ≡ Some post → AreOnLines (key_of post.to) ends) → Each AreOnLines (wired_in posts) all
+  pub on_lines_of : (all : List (NodeEnds P)) → length all ≡ length posts → ((k : ℕ) (ends : NodeEnds P) → slice_get all k ≡ Some ends → (post : Post P) → slice_get posts k ≡ Some post → AreOnLines (key_of post.to) ends) → Each AreOnLines (wired_in posts) all
   on_lines_of all long each = record {
     long = long ∙ sym wired_long;
     each = λ k wired ends has got.
         let found = is_some_of (λ (post : Post P). key_of post.to) (slice_get posts k) wired (sym (slice_get-map (λ (post : Post P). key_of post.to) posts k) ∙ has) in
-        subst (λ (w : Ends P). AreOnLines w ends) found.2 (each k ends got found.0 found.1);
+        subst (λ (w : NodeEnds P). AreOnLines w ends) found.2 (each k ends got found.0 found.1);
   }
 
 -- ends on the same lines are as many

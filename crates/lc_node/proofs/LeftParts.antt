@@ -19,12 +19,12 @@ use Rattle.lc_node.specs.declared.cluster.Cluster.{Cluster}
 use Rattle.lc_node.specs.declared.joining.Post.{Post}
 use Rattle.lc_node.specs.declared.member.Member.{Member}
 use Rattle.lc_node.specs.declared.node.Node.{Node}
-use Rattle.lc_node.specs.declared.wiring.Ends.{Ends}
+use Rattle.lc_node.specs.declared.wiring.NodeEnds.{NodeEnds}
 use Rattle.lc_node.proofs.Joined.{each_is}
 
 keys_of_posts : {D : Type 0} (members : List (Member D)) → wired_in (map post_of members) ≡ wired_by members
 keys_of_posts [] = refl
-keys_of_posts (member ∷ members) = ap (λ (l : List (Ends (Journey _))). key_of member.to ∷ l) (keys_of_posts members)
+keys_of_posts (member ∷ members) = ap (λ (l : List (NodeEnds (Journey _))). key_of member.to ∷ l) (keys_of_posts members)
 
 module _ {D : Type 0} (cluster : Cluster D) where
   -- the seats of the cluster are those of its nodes

@@ -6,7 +6,7 @@ use Rattle.std.proofs.lemmas.List.{append-nil, map-append}
 use Rattle.std.proofs.lemmas.List.Elements.{All-nil, All-push}
 use Rattle.std.proofs.lemmas.List.Concat.{flat_map-append}
 use Rattle.lc_lock.specs.Loans.{key_of}
-use Rattle.lc_lock.specs.declared.lock.Lock.{Lock}
+use Rattle.lc_lock.specs.declared.ticket_lock.TicketLock.{TicketLock}
 use Rattle.lc_tx.specs.declared.image.Image.{Image as Picture}
 use Rattle.lc_rest.specs.declared.segment_part.SegmentPart.{SegmentPart}
 use Rattle.lc_node.specs.LeftBy.{HasFailed, StoodBehind, tokens_at}
@@ -25,13 +25,13 @@ module _ {D : Type 0} where
   }
 
   -- one lock more
-  pub one_behind : (node : ℕ) (all : List (Lock (SegView D) ℕ)) (taken : ℕ) (lock : Lock (SegView D) ℕ) (side : SegView D) → slice_get all taken ≡ Some lock → side.segment ≡ key_of lock
+  pub one_behind : (node : ℕ) (all : List (TicketLock (SegView D) ℕ)) (taken : ℕ) (lock : TicketLock (SegView D) ℕ) (side : SegView D) → slice_get all taken ≡ Some lock → side.segment ≡ key_of lock
       → {images : List Picture} {applied : List ℕ} {old now new : List (SegmentPart D)} {image : Picture} {number : ℕ} (more : List Picture) (higher : List ℕ) → StoodBehind node (take taken all) images applied old now
       → side.image ≡ Some image → more ≡ images ++ image ∷ [] → number ≡ side.backlog.applied → higher ≡ applied ++ number ∷ [] → (HasFailed side.pages → ⊥) → new ≡ now ++ tokens_at node side
       → StoodBehind node (take (taken + 1) all) more higher old new
   one_behind node all taken lock side next key {images = images} {old = old} {image = image} more higher its shows more_are applies higher_are serves tokens = record {
     sides = its.sides ++ side ∷ [];
-    segments = map-append (λ (s : SegView D). s.segment) its.sides (side ∷ []) ∙ ((λ k. its.segments k ++ key k ∷ []) ∙ sym (mapped_more (λ (l : Lock (SegView D) ℕ). key_of l) all taken lock next));
+    segments = map-append (λ (s : SegView D). s.segment) its.sides (side ∷ []) ∙ ((λ k. its.segments k ++ key k ∷ []) ∙ sym (mapped_more (λ (l : TicketLock (SegView D) ℕ). key_of l) all taken lock next));
     images_are = map-append (λ (s : SegView D). s.image) its.sides (side ∷ []) ∙ ((λ k. its.images_are k ++ shows k ∷ [])
         ∙ (sym (map-append (λ (i : Picture). Some i) images (image ∷ [])) ∙ ap (map (λ (i : Picture). Some i)) (sym more_are)));
     applied_are = map-append (λ (s : SegView D). s.backlog.applied) its.sides (side ∷ []) ∙ ((λ k. its.applied_are k ++ sym applies k ∷ []) ∙ sym higher_are);

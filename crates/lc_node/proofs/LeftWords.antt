@@ -7,7 +7,7 @@ use Rattle.std.proofs.lemmas.List.Folds.{concat-append}
 use Rattle.lc_log.specs.LogText.{IsWhole, joined}
 use Rattle.lc_log.proofs.LogLemmas.{joined-append}
 use Rattle.lc_rest.specs.Parts.{IsKnownClean}
-use Rattle.lc_ended.specs.Ended.{Kept}
+use Rattle.lc_ended.specs.Ended.{EndedWords}
 use Rattle.lc_ended.specs.Left.{IsLeft}
 use Rattle.lc_node.specs.Published.{records_of}
 use Rattle.lc_node.proofs.EndedRecords.{AreOf}
@@ -16,11 +16,11 @@ use Rattle.lc_node.proofs.EndedRecords.{AreOf}
 pub left-long : (past : List (List ℕ)) (known : List ℕ) (gone : ℕ) (words : List ℕ) → IsLeft past known gone words → length (concat past) ≡ gone + length words
 left-long past known gone words is = ap (λ (l : List ℕ). length l) is.parts ∙ length-append (joined is.front) words ∙ ap (λ (n : ℕ). n + length words) (sym is.gone_is)
 
-pub left-same : (past past_now : List (List ℕ)) (known known_now : List ℕ) (e e_now : Kept) → IsLeft past known e.gone e.words → past_now ≡ past → known_now ≡ known → e_now ≡ e → IsLeft past_now known_now e_now.gone e_now.words
+pub left-same : (past past_now : List (List ℕ)) (known known_now : List ℕ) (e e_now : EndedWords) → IsLeft past known e.gone e.words → past_now ≡ past → known_now ≡ known → e_now ≡ e → IsLeft past_now known_now e_now.gone e_now.words
 left-same past past_now known known_now e e_now is one two three =
     subst (λ (p : List (List ℕ)). IsLeft p known_now e_now.gone e_now.words) (sym one)
     (subst (λ (k : List ℕ). IsLeft past k e_now.gone e_now.words) (sym two)
-    (subst (λ (x : Kept). IsLeft past known x.gone x.words) (sym three) is))
+    (subst (λ (x : EndedWords). IsLeft past known x.gone x.words) (sym three) is))
 
 -- a reset adds the records of its round
 pub left-reset : (past next : List (List ℕ)) (known : List ℕ) (gone gone_now : ℕ) (words stable taken new : List ℕ) → IsLeft past known gone words → (its : AreOf stable) → All (IsKnownClean known) its.records

@@ -15,7 +15,7 @@ use Rattle.lc_node.specs.Wiring.{AreLines, HasPeers, end_to, inbox_from}
 use Rattle.lc_node.specs.declared.message.Message.{Message}
 use Rattle.lc_node.specs.declared.peer_end.PeerEnd.{PeerEnd}
 use Rattle.lc_node.specs.declared.peer_inbox.PeerInbox.{PeerInbox}
-use Rattle.lc_node.specs.declared.wiring.Ends.{Ends}
+use Rattle.lc_node.specs.declared.wiring.NodeEnds.{NodeEnds}
 use Rattle.lc_node.proofs.Joined.{each_is}
 use Rattle.lc_node.proofs.PeerPlaces.{place_above, place_below}
 use mathlib.Core.Logic.{dite}
@@ -53,7 +53,7 @@ module _ {P : Type 0} where
   pub gives_more : (to : Option (PeerEnd P)) (from : Option (PeerInbox P)) (xs ys : List P) → Gives to from xs → Grows xs ys → Gives to from ys
   gives_more to from xs ys h g = λ peer inbox t f. stand_more (left_on peer inbox) xs ys (h peer inbox t f) g
 
-  pub both_more : (place : ℕ) (mine peer : Ends P) (xs ys : List P) → GivesBoth place mine peer xs → Grows xs ys → GivesBoth place mine peer ys
+  pub both_more : (place : ℕ) (mine peer : NodeEnds P) (xs ys : List P) → GivesBoth place mine peer xs → Grows xs ys → GivesBoth place mine peer ys
   both_more place mine peer xs ys h g = record {
     there = gives_more (slice_get mine.to.ends.items place) (slice_get peer.from.ends.items 0) xs ys h.there g;
     back = gives_more (slice_get peer.to.ends.items 0) (slice_get mine.from.ends.items place) xs ys h.back g;
@@ -78,20 +78,20 @@ module _ {A : Type 0} where
   at_front : (n : ℕ) (xs left : List A) → left ≡ drop n xs → slice_get left 0 ≡ slice_get xs n
   at_front n xs left is = let same : n + 0 ≡ n = omega arith in ap (λ (l : List A). slice_get l 0) is ∙ (get-drop n 0 xs ∙ ap (slice_get xs) same)
 
-module _ {P : Type 0} (place : ℕ) (first mine : Ends P) (to : mine.to.ends.items ≡ drop place first.to.ends.items) (from : mine.from.ends.items ≡ drop place first.from.ends.items) where
+module _ {P : Type 0} (place : ℕ) (first mine : NodeEnds P) (to : mine.to.ends.items ≡ drop place first.to.ends.items) (from : mine.from.ends.items ≡ drop place first.from.ends.items) where
   sends : slice_get mine.to.ends.items 0 ≡ slice_get first.to.ends.items place
   sends = at_front place first.to.ends.items mine.to.ends.items to
 
   takes : slice_get mine.from.ends.items 0 ≡ slice_get first.from.ends.items place
   takes = at_front place first.from.ends.items mine.from.ends.items from
 
-  pub joined_here : (peer : Ends P) → AreJoined place first peer → AreJoined 0 mine peer
+  pub joined_here : (peer : NodeEnds P) → AreJoined place first peer → AreJoined 0 mine peer
   joined_here peer j = record {
     there = (j.there.0, j.there.1, sends ∙ j.there.2, j.there.3, j.there.4);
     back = (j.back.0, j.back.1, j.back.2, takes ∙ j.back.3, j.back.4);
   }
 
-  pub given_there : (peer : Ends P) (tokens : List P) → GivesBoth 0 mine peer tokens → GivesBoth place first peer tokens
+  pub given_there : (peer : NodeEnds P) (tokens : List P) → GivesBoth 0 mine peer tokens → GivesBoth place first peer tokens
   given_there peer tokens h = record {
     there = λ p i a b. h.there p i (sends ∙ a) b;
     back = λ p i a b. h.back p i a (takes ∙ b);
@@ -111,17 +111,17 @@ to_first : (k : ℕ) → place_of (suc k) 0 ≡ 0
 to_first k = place_below (suc k) 0 (omega arith)
 
 module _ {P : Type 0} where
-  end_at : (all : List (Ends P)) (node peer : ℕ) (mine : Ends P) → slice_get all node ≡ Some mine → end_to all node peer ≡ slice_get mine.to.ends.items (place_of node peer)
-  end_at all node peer mine at = ap (λ (o : Option (Ends P)). option_and_then (λ (m : Ends P). slice_get m.to.ends.items (place_of node peer)) o) at
+  end_at : (all : List (NodeEnds P)) (node peer : ℕ) (mine : NodeEnds P) → slice_get all node ≡ Some mine → end_to all node peer ≡ slice_get mine.to.ends.items (place_of node peer)
+  end_at all node peer mine at = ap (λ (o : Option (NodeEnds P)). option_and_then (λ (m : NodeEnds P). slice_get m.to.ends.items (place_of node peer)) o) at
 
-  inbox_at : (all : List (Ends P)) (node peer : ℕ) (mine : Ends P) → slice_get all node ≡ Some mine → inbox_from all node peer ≡ slice_get mine.from.ends.items (place_of node peer)
-  inbox_at all node peer mine at = ap (λ (o : Option (Ends P)). option_and_then (λ (m : Ends P). slice_get m.from.ends.items (place_of node peer)) o) at
+  inbox_at : (all : List (NodeEnds P)) (node peer : ℕ) (mine : NodeEnds P) → slice_get all node ≡ Some mine → inbox_from all node peer ≡ slice_get mine.from.ends.items (place_of node peer)
+  inbox_at all node peer mine at = ap (λ (o : Option (NodeEnds P)). option_and_then (λ (m : NodeEnds P). slice_get m.from.ends.items (place_of node peer)) o) at
 
-  abbrev AreEndsOf : List (Ends P) → ℕ → ℕ → Type 0
+  abbrev AreEndsOf : List (NodeEnds P) → ℕ → ℕ → Type 0
   AreEndsOf all f t = option_map origin_of (inbox_from all t f) ≡ option_map line_of (end_to all f t)
 
-  module _ (mine : Ends P) (peers news : List (Ends P)) (each : Each IsBehindFirst peers news) where
-    abbrev whole : List (Ends P)
+  module _ (mine : NodeEnds P) (peers news : List (NodeEnds P)) (each : Each IsBehindFirst peers news) where
+    abbrev whole : List (NodeEnds P)
     whole = mine ∷ peers
 
     -- an end that is left
@@ -170,7 +170,7 @@ module _ {P : Type 0} where
       lines = λ f t f_in t_in apart. line_left f t apart (omega arith) (omega arith) (wired.lines (suc f) (suc t) (omega arith) (omega arith) (λ e. apart (omega (arith, e))));
     }
 
-    pub given_more : (tokens : List P) → ((place : ℕ) (peer : Ends P) → slice_get peers place ≡ Some peer → GivesBoth place mine peer tokens) → GivesAll news tokens → GivesAll whole tokens
+    pub given_more : (tokens : List P) → ((place : ℕ) (peer : NodeEnds P) → slice_get peers place ≡ Some peer → GivesBoth place mine peer tokens) → GivesAll news tokens → GivesAll whole tokens
     given_more tokens first others zero zero f_in t_in apart = absurd (apart refl)
     given_more tokens first others zero (suc t) f_in t_in apart =
         let peer = stands peers t (omega arith) in λ p i sends takes.
@@ -189,10 +189,10 @@ module _ {P : Type 0} where
         (sym (inbox_left t f (λ e. differ (sym e)) (omega arith)) ∙ takes)
 
   -- the first has both its lines with each other
-  pub joined_first : (mine : Ends P) (peers : List (Ends P)) → AreWiredAs (length (mine ∷ peers)) (mine ∷ peers) → (place : ℕ) (peer : Ends P) → slice_get peers place ≡ Some peer → AreJoined place mine peer
+  pub joined_first : (mine : NodeEnds P) (peers : List (NodeEnds P)) → AreWiredAs (length (mine ∷ peers)) (mine ∷ peers) → (place : ℕ) (peer : NodeEnds P) → slice_get peers place ≡ Some peer → AreJoined place mine peer
   joined_first mine peers wired place peer at =
       let within = slice_get_within peers place peer at in
-      let all : List (Ends P) = mine ∷ peers in
+      let all : List (NodeEnds P) = mine ∷ peers in
       let has = at_each (HasPeers (length all)) all 0 mine wired.peers refl in
       let others = at_each (HasPeers (length all)) all (suc place) peer wired.peers at in
       let mine_to = mine.to.ends.ok.0 in let peer_to = peer.to.ends.ok.0 in let has_to = has.0 in let others_to = others.0 in
@@ -221,7 +221,7 @@ module _ {P : Type 0} where
       }
 
   -- lines that lead from each node to each other
-  pub ends_of_lines : (nodes : ℕ) (all : List (Ends P)) → All (HasPeers nodes) all → AreLines nodes all → AreWiredAs nodes all
+  pub ends_of_lines : (nodes : ℕ) (all : List (NodeEnds P)) → All (HasPeers nodes) all → AreLines nodes all → AreWiredAs nodes all
   ends_of_lines nodes all peers lines = record {
     peers = peers;
     lines = λ f t f_in t_in apart. let line = lines f t f_in t_in apart in ap (option_map origin_of) line.3 ∙ (ap Some line.4 ∙ sym (ap (option_map line_of) line.2));

@@ -1,7 +1,7 @@
 -- A commit on sides that are held is one on the segments that were asked for.
 use Rattle.std.proofs.Common.{◌≡◌, ℕ, ◌<◌, Bool, true, false, Ok, Err, List, [], ◌∷◌, All, length, get_or, inl, inr, arith}
 use Rattle.std.specs.Prelude.{◌⊎◌, IfErr, OnOk, Result}
-use Rattle.lc_stage.specs.declared.view.View.{View}
+use Rattle.lc_stage.specs.declared.stage_view.StageView.{StageView}
 use Rattle.lc_tx.specs.Tx.{IsSetOf}
 use Rattle.lc_node.specs.Commits.{AreHere, CommitsAmong, CommitsWork, IsKept, IsKeptTidy, IsUnbegunAmong, IsUnbegunOn, IsUncommitted, bytes_at, segments_in}
 use Rattle.lc_node.specs.Each.{Each}
@@ -22,7 +22,7 @@ each_ok (Ok done) P Q give p = give p
 each_ok (Err f) P Q give p = tt
 
 module _ {D : Type 0} where
-  pub commits_among : (node : Node D) (tells : Tells) (asked : List ℕ) (olds news : List (HeldSide D)) (tries : ℕ) (v w : View) (r : Result Bool NodeFault)
+  pub commits_among : (node : Node D) (tells : Tells) (asked : List ℕ) (olds news : List (HeldSide D)) (tries : ℕ) (v w : StageView) (r : Result Bool NodeFault)
       → All (IsHeldOf node) olds → IsSetOf asked (segments_in olds) → OnOk r (AreHere olds)
       → (r ≡ Ok true → CommitsWork node.number tells olds news v w)
       → (r ≡ Ok false → (w ≡ v) × Each IsKeptTidy olds news × Ran tells (segments_in olds) (bytes_at olds) (Ok tt) (bytes_at news) [])

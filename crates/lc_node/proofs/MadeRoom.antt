@@ -4,7 +4,7 @@ use Rattle.std.specs.Prelude.{Bool, Result}
 use Rattle.std.proofs.lemmas.List.{length-map, take-map}
 use Rattle.std.proofs.Math.Seq.{take-append_seam, drop-append_seam}
 use Rattle.lc_record.specs.Record.{Chain}
-use Rattle.lc_stage.specs.declared.view.View.{View}
+use Rattle.lc_stage.specs.declared.stage_view.StageView.{StageView}
 use Rattle.lc_node.specs.Commits.{segments_in}
 use Rattle.lc_node.specs.Each.{Each}
 use Rattle.lc_node.specs.MakingRoom.{CommitsFirst, CommitsOn}
@@ -32,7 +32,7 @@ module _ {D : Type 0} where
   long_as xs ys same = sym (length-map xs (λ (h : HeldSide D). h.side.segment)) ∙ (ap (λ (l : List ℕ). length l) same ∙ length-map ys (λ (h : HeldSide D). h.side.segment))
 
   -- a commit on the front is one on the first of them
-  pub commits_first : (node : Node D) (tells : Tells) (tries k : ℕ) (olds asked others news written : List (HeldSide D)) (v w : View) (r : Result Bool NodeFault)
+  pub commits_first : (node : Node D) (tells : Tells) (tries k : ℕ) (olds asked others news written : List (HeldSide D)) (v w : StageView) (r : Result Bool NodeFault)
       → olds ≡ asked ++ others → length asked ≡ k → written ≡ news ++ others → length news ≡ length asked
       → CommitsOn node tells tries asked news v w r → CommitsFirst node tells tries k olds written v w r
   commits_first node tells tries k olds asked others news written v w r whole long back same on =

@@ -4,7 +4,7 @@ use Rattle.std.specs.Prelude.{◌^◌, IsSomeAnd, max}
 use Rattle.std.proofs.lemmas.Bool.{cases_eq, cases_lt, le-ltb}
 use Rattle.lc_disk.specs.declared.area.Area.{Ghosts}
 use Rattle.lc_page.specs.PageVector.{entry_at, is_dirty, no_entry, settled}
-use Rattle.lc_page.specs.declared.entry.Entry.{Entry}
+use Rattle.lc_page.specs.declared.page_entry.PageEntry.{PageEntry}
 use Rattle.lc_token.specs.Token.{IsReached, IsWritten}
 use Rattle.lc_token.specs.declared.token.Token.{Token}
 use Rattle.lc_node.specs.Pages.{AreWritten, FitsPage, FitsToken, IsCleanNow, entry_after}
@@ -33,16 +33,16 @@ pub record AreNoted (old new : Token) (front : ℕ) : Type 0 where
 -- What the entry of a page says once it was written, if it was dirty
 
 after_free : (token : Token) (page : ℕ) → (entry_after token page).uncommitted ≡ (entry_at token.pages page).uncommitted
-after_free token page = by_dirty (λ (e : Entry). e.uncommitted ≡ (entry_at token.pages page).uncommitted) (entry_at token.pages page) token.seq (λ dirty. refl) (λ clean. refl)
+after_free token page = by_dirty (λ (e : PageEntry). e.uncommitted ≡ (entry_at token.pages page).uncommitted) (entry_at token.pages page) token.seq (λ dirty. refl) (λ clean. refl)
 
 after_touched : (token : Token) (page : ℕ) → (entry_after token page).touched ≡ (entry_at token.pages page).touched
-after_touched token page = by_dirty (λ (e : Entry). e.touched ≡ (entry_at token.pages page).touched) (entry_at token.pages page) token.seq (λ dirty. refl) (λ clean. refl)
+after_touched token page = by_dirty (λ (e : PageEntry). e.touched ≡ (entry_at token.pages page).touched) (entry_at token.pages page) token.seq (λ dirty. refl) (λ clean. refl)
 
 after_stable : (token : Token) (page : ℕ) → (entry_at token.pages page).stable ≤ token.seq → (entry_after token page).stable ≤ token.seq
-after_stable token page low = by_dirty (λ (e : Entry). e.stable ≤ token.seq) (entry_at token.pages page) token.seq (λ dirty. omega arith) (λ clean. low)
+after_stable token page low = by_dirty (λ (e : PageEntry). e.stable ≤ token.seq) (entry_at token.pages page) token.seq (λ dirty. omega arith) (λ clean. low)
 
 after_is_clean : (token : Token) (page : ℕ) → (entry_at token.pages page).touched ≤ token.seq → is_dirty (entry_after token page) ≡ false
-after_is_clean token page low = by_dirty (λ (e : Entry). is_dirty e ≡ false) (entry_at token.pages page) token.seq (λ dirty. le-ltb token.seq (entry_at token.pages page).touched low) (λ clean. clean)
+after_is_clean token page low = by_dirty (λ (e : PageEntry). is_dirty e ≡ false) (entry_at token.pages page) token.seq (λ dirty. le-ltb token.seq (entry_at token.pages page).touched low) (λ clean. clean)
 
 -- A token that stands at a place
 
@@ -109,11 +109,11 @@ module _ (old now : Token) (front : ℕ) (h : AreNoted old now front) where
 
     own : entry_at new.pages front ≡ entry_after old front
     own =
-        ap (λ (es : List Entry). entry_at es front) is.pages ∙ get_or-set_same now.pages front (settled (entry_at now.pages front) old.seq) no_entry there
-        ∙ ap (λ (e : Entry). settled e old.seq) here ∙ sym (after_dirty old front was)
+        ap (λ (es : List PageEntry). entry_at es front) is.pages ∙ get_or-set_same now.pages front (settled (entry_at now.pages front) old.seq) no_entry there
+        ∙ ap (λ (e : PageEntry). settled e old.seq) here ∙ sym (after_dirty old front was)
 
     other : (page : ℕ) → page ≢ front → entry_at new.pages page ≡ entry_at now.pages page
-    other page differ = ap (λ (es : List Entry). entry_at es page) is.pages ∙ get_or-set_other now.pages front page (settled (entry_at now.pages front) old.seq) no_entry differ
+    other page differ = ap (λ (es : List PageEntry). entry_at es page) is.pages ∙ get_or-set_other now.pages front page (settled (entry_at now.pages front) old.seq) no_entry differ
 
     noted : (page : ℕ) → page < front + 1 → page < length old.pages → entry_at new.pages page ≡ entry_after old page
     noted page before inside = elim (cases_eq page front) [
@@ -129,8 +129,8 @@ module _ (old now : Token) (front : ℕ) (h : AreNoted old now front) where
 
     stable_low : (page : ℕ) → page < length old.pages → (entry_at new.pages page).stable ≤ old.seq
     stable_low page inside = elim (cases_lt page (front + 1)) [
-      | inl before ↦ subst (λ (e : Entry). e.stable ≤ old.seq) (sym (noted page before inside)) (after_stable old page (low page inside))
-      | inr after ↦ subst (λ (e : Entry). e.stable ≤ old.seq) (sym (behind page after)) (low page inside)
+      | inl before ↦ subst (λ (e : PageEntry). e.stable ≤ old.seq) (sym (noted page before inside)) (after_stable old page (low page inside))
+      | inr after ↦ subst (λ (e : PageEntry). e.stable ≤ old.seq) (sym (behind page after)) (low page inside)
     ]
 
     is_reached : IsReached old.seq new.pages is.reached
@@ -212,14 +212,14 @@ written_fits a since area later old new bytes h over is =
       few = (let few = h.few in omega (arith, few, count));
       room = (let room = over.room in omega (arith, room, count));
       small = subst (λ (n : ℕ). n ≤ 2 ^ 60) (sym is.same_seq) h.small;
-      free = λ page within. (let known = inside page within in ap (λ (e : Entry). e.uncommitted) (is.each page known) ∙ after_free old page ∙ h.free page known);
+      free = λ page within. (let known = inside page within in ap (λ (e : PageEntry). e.uncommitted) (is.each page known) ∙ after_free old page ∙ h.free page known);
       stable = λ page within.
           (let known = inside page within in
           subst (λ (n : ℕ). (entry_at new.pages page).stable ≤ n) (sym is.same_seq)
-          (subst (λ (e : Entry). e.stable ≤ old.seq) (sym (is.each page known)) (after_stable old page (h.stable page known))));
+          (subst (λ (e : PageEntry). e.stable ≤ old.seq) (sym (is.each page known)) (after_stable old page (h.stable page known))));
       touched = λ page within.
           (let known = inside page within in
           subst (λ (n : ℕ). (entry_at new.pages page).touched ≤ n) (sym is.same_seq)
-          (subst (λ (n : ℕ). n ≤ old.seq) (sym (ap (λ (e : Entry). e.touched) (is.each page known) ∙ after_touched old page)) (h.touched page known)));
-      each = λ page within. (let known = inside page within in subst (λ (e : Entry). FitsPage a since later bytes page e) (sym (is.each page known)) (over.each page known).fits);
+          (subst (λ (n : ℕ). n ≤ old.seq) (sym (ap (λ (e : PageEntry). e.touched) (is.each page known) ∙ after_touched old page)) (h.touched page known)));
+      each = λ page within. (let known = inside page within in subst (λ (e : PageEntry). FitsPage a since later bytes page e) (sym (is.each page known)) (over.each page known).fits);
     }

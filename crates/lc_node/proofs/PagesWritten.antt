@@ -9,7 +9,7 @@ use Rattle.std.proofs.lemmas.List.Elements.{All-append}
 use Rattle.std.specs.Option.{ForSome}
 use Rattle.std.specs.Ordering.{ord_max, nat_cmp}
 use Rattle.lc_disk.specs.declared.area.Area.{Ghosts}
-use Rattle.lc_stage.specs.declared.view.View.{View}
+use Rattle.lc_stage.specs.declared.stage_view.StageView.{StageView}
 use Rattle.lc_stage.specs.Seats.{flush_view}
 use Rattle.lc_trunc.specs.KnownClean.{Sees}
 use Rattle.lc_token.specs.Standing.{Standing}
@@ -198,5 +198,5 @@ of_truncation_held a node olds news fault (inr (old, new, own, refused)) = of_tr
 -- a flush leaves room for the words of its round
 pub room_behind : {D : Type 0} (room count : ℕ) (old new : LogView D) → Flushes room old count new → HasRoom old → HasRoom new
 room_behind room count old new f has =
-    let words : (flush_view new.flusher).room ≡ (flush_view old.flusher).room = ap (λ (v : View). v.room) f.publishes ∙ ap (λ (v : View). v.room) f.takes.1 in
+    let words : (flush_view new.flusher).room ≡ (flush_view old.flusher).room = ap (λ (v : StageView). v.room) f.publishes ∙ ap (λ (v : StageView). v.room) f.takes.1 in
     let long : length new.ended ≡ length old.ended = ap (λ (l : List ℕ). length l) f.ended in let most = f.ended_room in omega arith

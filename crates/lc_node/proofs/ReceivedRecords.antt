@@ -8,8 +8,8 @@ use Rattle.lc_record.specs.Codec.{BeginsWith}
 use Rattle.lc_record.specs.Record.{IsRecord, record_len}
 use Rattle.lc_record.specs.declared.record.Record.{Record}
 use Rattle.lc_stage.specs.Staging.{Agree, InLog, IsOneRecord, Owns}
-use Rattle.lc_stage.specs.declared.view.Reservation.{Reservation}
-use Rattle.lc_stage.specs.declared.view.View.{View}
+use Rattle.lc_stage.specs.declared.stage_view.Reservation.{Reservation}
+use Rattle.lc_stage.specs.declared.stage_view.StageView.{StageView}
 use Rattle.lc_trunc.specs.KnownClean.{known as known_of}
 use Rattle.lc_trunc.specs.Reset.{AreKnown, BeginWith, IsAbove}
 use Rattle.lc_node.specs.Among.{IsAmong}
@@ -59,7 +59,7 @@ module _ (known : ℕ → ℕ) where
 stands_in : (log : List ℕ) (r : Reservation) → InLog log r → IsOneRecord r.words → (index : ℕ) × IsAmong log index r.place r.words
 stands_in log r its one = let front = its.3 in (length front.0, among log r.place (length front.0) r.words (front.0, front.1, front.2, refl) one its.1 its.2)
 
-pub received : (f c : View) (round : ℕ) (stable rest known : List ℕ) → Agree f c → round ≡ length f.past → f.taken ≡ stable ++ rest → f.published ≤ round * 65536 + length stable
+pub received : (f c : StageView) (round : ℕ) (stable rest known : List ℕ) → Agree f c → round ≡ length f.past → f.taken ≡ stable ++ rest → f.published ≤ round * 65536 + length stable
     → All (λ (words : List ℕ). AreKnown words (known_of known)) f.past → (r : Reservation) → Owns c.receipts r → IsReceived round stable known r
 received f c round stable rest known agree at split low all r own =
     let its = agree.received r own in

@@ -9,8 +9,8 @@ use Rattle.lc_disk.specs.declared.area.Area.{Ghosts}
 use Rattle.lc_record.specs.declared.geometry.Geometry.{Geometry}
 use Rattle.lc_record.proofs.ListLemmas.{slice_get_some as stands}
 use Rattle.lc_stage.specs.Staging.{end_of}
-use Rattle.lc_stage.specs.declared.view.View.{View}
-use Rattle.lc_rest.specs.declared.part.Part.TheVariants.{Seat, Log}
+use Rattle.lc_stage.specs.declared.stage_view.StageView.{StageView}
+use Rattle.lc_rest.specs.declared.cluster_part.ClusterPart.TheVariants.{Seat, Log}
 use Rattle.lc_node.specs.LeftBy.{node_in}
 use Rattle.lc_node.specs.LogView.{LogView}
 use Rattle.lc_node.specs.Refusals.{HasRoom, StopsNode, StopsParts, StopsSegment}
@@ -27,7 +27,7 @@ handed_on res fault P is its =
     subst (λ (r : Result _ NodeFault). IfErr r P) (sym p.1) (subst P (sym p.2) its)
 
 -- the end of what was taken, which is what was stable and the words after it
-pub end_behind : (v w : View) (round : ℕ) (stable words : List ℕ) → w.past ≡ v.past → round ≡ length v.past → stable ≡ v.taken → w.taken ≡ v.taken ++ words → end_of w ≡ round * 65536 + length stable + length words
+pub end_behind : (v w : StageView) (round : ℕ) (stable words : List ℕ) → w.past ≡ v.past → round ≡ length v.past → stable ≡ v.taken → w.taken ≡ v.taken ++ words → end_of w ≡ round * 65536 + length stable + length words
 end_behind v w round stable words past at same taken =
     let long : length w.taken ≡ length stable + length words = omega (arith, ap (λ (l : List ℕ). length l) taken, length-append v.taken words, ap (λ (l : List ℕ). length l) same) in
     let rounds : length w.past ≡ round = ap (λ (l : List (List ℕ)). length l) past ∙ sym at in

@@ -4,7 +4,7 @@ use Rattle.std.specs.List.{list_any}
 use Rattle.std.proofs.lemmas.List.{append-nil}
 use Rattle.std.proofs.lemmas.List.Elements.{filter-append}
 use Rattle.lc_page.specs.PageVector.{touched_at}
-use Rattle.lc_page.specs.declared.entry.Entry.{Entry}
+use Rattle.lc_page.specs.declared.page_entry.PageEntry.{PageEntry}
 use Rattle.lc_range.specs.RangeSet.{EndWithin}
 use Rattle.lc_range.specs.declared.range.Range.{Range}
 use Rattle.lc_record.specs.Marks.{counting}
@@ -25,15 +25,15 @@ any_same page image (run ∷ runs) within =
     ap (λ (n : ℕ). (nat_lt 0 n && (nat_lt run.offset (page * 256 + 256) && nat_lt (page * 256) (run.offset + n))) || list_any (is_on page) (map (range_of_run image) runs)) long
     ∙ ap (λ (b : Bool). is_on page (range_at run) || b) (any_same page image runs within.1)
 
-from_same : (image : List ℕ) (runs : List Range) → EndWithin runs (length image) → (seq page : ℕ) (entries : List Entry)
+from_same : (image : List ℕ) (runs : List Range) → EndWithin runs (length image) → (seq page : ℕ) (entries : List PageEntry)
     → touched_from (map range_at runs) seq page entries ≡ touched_from (map (range_of_run image) runs) seq page entries
 from_same image runs within seq page [] = refl
 from_same image runs within seq page (entry ∷ entries) =
     ap (λ (b : Bool). cond b (touched_at entry seq) entry ∷ touched_from (map range_at runs) seq (suc page) entries) (sym (any_same page image runs within))
-    ∙ ap (λ (l : List Entry). touched_by (map (range_of_run image) runs) seq page entry ∷ l) (from_same image runs within seq (suc page) entries)
+    ∙ ap (λ (l : List PageEntry). touched_by (map (range_of_run image) runs) seq page entry ∷ l) (from_same image runs within seq (suc page) entries)
 
 -- the same pages are touched, whichever bytes the runs have
-pub touched_same : (image : List ℕ) (runs : List Range) → EndWithin runs (length image) → (seq : ℕ) (entries : List Entry)
+pub touched_same : (image : List ℕ) (runs : List Range) → EndWithin runs (length image) → (seq : ℕ) (entries : List PageEntry)
     → touched_pages (map range_at runs) seq entries ≡ touched_pages (map (range_of_run image) runs) seq entries
 touched_same image runs within seq entries = from_same image runs within seq 0 entries
 

@@ -23,11 +23,11 @@ use Rattle.lc_tx.proofs.RecordLemmas.{inside_from}
 use Rattle.lc_node.specs.Attempts.{Leaves}
 use Rattle.lc_node.specs.Each.{Each, EachThree}
 use Rattle.lc_node.specs.Held.{lent_side}
-use Rattle.lc_node.specs.Lent.{the_images}
+use Rattle.lc_node.specs.HeldImages.{the_images}
 use Rattle.lc_node.specs.Sides.{CanCount, CountsRuns, HasMoreRoom, HasRoomForRuns, IsCounted, IsOut, if_any, part_for, number_in as number_here}
 use Rattle.lc_node.specs.declared.held.HeldSide.{HeldSide}
 use Rattle.lc_node.specs.declared.lent.LentSlot.{LentSlot}
-use Rattle.lc_node.specs.declared.lent.Lent.{Lent}
+use Rattle.lc_node.specs.declared.lent.HeldImages.{HeldImages}
 use Rattle.lc_node.proofs.CommitKeeps.{number_some, some_number, was}
 use Rattle.lc_node.proofs.PartsOf.{number_fits}
 use Rattle.lc_node.proofs.Slots.{AscendFrom, SameBeside, each_of, each_to, got_map, map_got, same_beside}
@@ -75,8 +75,8 @@ module _ {D : Type 0} where
   segments sides = map (λ (h : HeldSide D). h.side.segment) sides
 
   -- the images of these sides are out, and there may be more room beside them by now
-  module _ (ys zs mid : List (HeldSide D)) (lent : Lent) (gone : zs ≡ map lent_side ys) (out : Each IsOut ys lent.slots.items) (up : AscendFrom 0 (segments ys)) (more : Each HasMoreRoom zs mid)
-      (node : ℕ) (at_end new : Lent) (tx : Tx) (leaves : Leaves the_images (segments ys) lent at_end tx) (same : IsSame the_images at_end new) (runs : RunsOn the_images at_end tx) (canonical : IsCanonical tx.set)
+  module _ (ys zs mid : List (HeldSide D)) (lent : HeldImages) (gone : zs ≡ map lent_side ys) (out : Each IsOut ys lent.slots.items) (up : AscendFrom 0 (segments ys)) (more : Each HasMoreRoom zs mid)
+      (node : ℕ) (at_end new : HeldImages) (tx : Tx) (leaves : Leaves the_images (segments ys) lent at_end tx) (same : IsSame the_images at_end new) (runs : RunsOn the_images at_end tx) (canonical : IsCanonical tx.set)
       (words : List ℕ) (is : IsRecord (final_record the_images at_end tx node) words) (beside : the_images.IsSameBeside lent new) where
     abbrev pub whole : Record
     whole = final_record the_images at_end tx node

@@ -5,7 +5,7 @@ use lib.Seq.{get_or-append-add}
 use Rattle.std.specs.List.{slice_get}
 use Rattle.std.specs.Prelude.{IsSome}
 use Rattle.std.proofs.lemmas.Option.{slice_get_within, get_or_from_slice_get, slice_get_read}
-use Rattle.lc_lock.specs.declared.lock.Lock.{Lock}
+use Rattle.lc_lock.specs.declared.ticket_lock.TicketLock.{TicketLock}
 use Rattle.lc_lock.specs.Loans.{key_of, IsLoanOf}
 use Rattle.lc_node.specs.SegView.{SegView}
 use Rattle.lc_node.specs.Held.{IsHeldOf}
@@ -21,7 +21,7 @@ module _ {A : Type 0} (P : A → Type 0) where
 
 module _ {D : Type 0} where
   -- a segment that was just locked is held
-  pub held_now : (node : Node D) (h : HeldSide D) (lock : Lock (SegView D) ℕ) (place : ℕ) → place < length node.segments.items → lock ≡ get_or node.segments.items place lock → h.side.segment ≡ key_of lock → IsLoanOf lock h.loan → IsSome h.side.image
+  pub held_now : (node : Node D) (h : HeldSide D) (lock : TicketLock (SegView D) ℕ) (place : ℕ) → place < length node.segments.items → lock ≡ get_or node.segments.items place lock → h.side.segment ≡ key_of lock → IsLoanOf lock h.loan → IsSome h.side.image
       → IsHeldOf node h × (h.side.segment ≡ place + 1)
   held_now node h lock place within is fits loan here = let got : slice_get node.segments.items place ≡ Some lock = slice_get_read node.segments.items (length node.segments.items) place lock refl within is in
       let at = node.in_order place lock got in
@@ -29,9 +29,9 @@ module _ {D : Type 0} where
 
   -- the lock of a held segment is that which lent it
   pub held_lock : (node : Node D) (h : HeldSide D) (segment : ℕ) → IsHeldOf node h → segment ≡ h.side.segment
-      → (segment - 1 < length node.segments.items) × ((lock : Lock (SegView D) ℕ) → lock ≡ get_or node.segments.items (segment - 1) lock → (h.side.segment ≡ key_of lock) × IsLoanOf lock h.loan × IsSome h.side.image)
+      → (segment - 1 < length node.segments.items) × ((lock : TicketLock (SegView D) ℕ) → lock ≡ get_or node.segments.items (segment - 1) lock → (h.side.segment ≡ key_of lock) × IsLoanOf lock h.loan × IsSome h.side.image)
   held_lock node h segment t is = let place : t.0 ≡ segment - 1 = (let e = t.3 in omega arith) in let got : slice_get node.segments.items (segment - 1) ≡ Some t.1 = ap (λ (n : ℕ). slice_get node.segments.items n) (sym place) ∙ t.2 in (
     slice_get_within node.segments.items (segment - 1) t.1 got,
     λ lock at. let same : t.1 ≡ lock = sym (at ∙ get_or_from_slice_get node.segments.items (segment - 1) t.1 lock got) in
-        (subst (λ (l : Lock (SegView D) ℕ). h.side.segment ≡ key_of l) same (t.3 ∙ sym (node.in_order t.0 t.1 t.2)), subst (λ (l : Lock (SegView D) ℕ). IsLoanOf l h.loan) same t.4, t.5),
+        (subst (λ (l : TicketLock (SegView D) ℕ). h.side.segment ≡ key_of l) same (t.3 ∙ sym (node.in_order t.0 t.1 t.2)), subst (λ (l : TicketLock (SegView D) ℕ). IsLoanOf l h.loan) same t.4, t.5),
   )

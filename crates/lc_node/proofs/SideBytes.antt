@@ -17,12 +17,12 @@ use Rattle.lc_tx.specs.Tx.{IsSetOf}
 use Rattle.lc_node.specs.Attempts.{IsUnbegun}
 use Rattle.lc_node.specs.Commits.{IsKeptTidy, IsUnbegunAmong, IsUnbegunOn, TakesOf, TakesPart, bytes_at, number_at, of_side, shown}
 use Rattle.lc_node.specs.Each.{Each, EachThree}
-use Rattle.lc_node.specs.Lent.{the_images}
+use Rattle.lc_node.specs.HeldImages.{the_images}
 use Rattle.lc_node.specs.Ran.{AgreeOn, Brings, ranges_in}
 use Rattle.lc_node.specs.Sides.{number_in, IsBack, IsOut, IsRoomier}
 use Rattle.lc_node.specs.declared.held.HeldSide.{HeldSide}
 use Rattle.lc_node.specs.declared.lent.LentSlot.{LentSlot}
-use Rattle.lc_node.specs.declared.lent.Lent.{Lent}
+use Rattle.lc_node.specs.declared.lent.HeldImages.{HeldImages}
 use Rattle.lc_node.proofs.Slots.{AscendFrom, each_head, each_map, each_tail, each_to, got_map, image_is, map_got, member_place, number_is, same_beside, same_segments, segments_in}
 use Rattle.lc_node.proofs.Standing.{roomier_image, roomier_segment, takes_segment}
 
@@ -74,7 +74,7 @@ module _ {D : Type 0} where
 
   -- What is out of the sides
 
-  module _ (xs ys : List (HeldSide D)) (lent : Lent) (more : Each IsRoomier xs ys) (out : Each IsOut ys lent.slots.items) (up : AscendFrom 0 (segments ys)) where
+  module _ (xs ys : List (HeldSide D)) (lent : HeldImages) (more : Each IsRoomier xs ys) (out : Each IsOut ys lent.slots.items) (up : AscendFrom 0 (segments ys)) where
     slots_up : AscendFrom 0 (segments_in lent.slots.items)
     slots_up = subst (AscendFrom 0) (sym (each_map IsOut (λ (h : HeldSide D). h.side.segment) (λ (s : LentSlot). s.segment) ys lent.slots.items out (λ h s is. is.segment))) up
 
@@ -120,7 +120,7 @@ module _ {D : Type 0} where
 
   -- What comes back to the sides
 
-  module _ (cs last : List (HeldSide D)) (old new : Lent) (same : the_images.IsSameBeside old new) (back : EachThree IsBack cs new.slots.items last)
+  module _ (cs last : List (HeldSide D)) (old new : HeldImages) (same : the_images.IsSameBeside old new) (back : EachThree IsBack cs new.slots.items last)
       (of : segments last ≡ segments_in old.slots.items) (up : AscendFrom 0 (segments last)) where
     now_of : segments_in new.slots.items ≡ segments last
     now_of = same_segments old.slots.items new.slots.items (same_beside old new same) ∙ sym of

@@ -8,9 +8,9 @@ use Rattle.lc_record.specs.Record.{Chain}
 use Rattle.lc_record.specs.Transaction.{is_member}
 use Rattle.lc_tx.specs.declared.image.Image.{Image as Picture}
 use Rattle.lc_node.specs.Each.{Each}
-use Rattle.lc_node.specs.Lent.{the_images, beside, hidden, slot_of, place_of, image_at, number_at}
+use Rattle.lc_node.specs.HeldImages.{the_images, beside, hidden, slot_of, place_of, image_at, number_at}
 use Rattle.lc_node.specs.declared.lent.LentSlot.{LentSlot}
-use Rattle.lc_node.specs.declared.lent.Lent.{Lent}
+use Rattle.lc_node.specs.declared.lent.HeldImages.{HeldImages}
 
 -- Lists beside each other
 
@@ -94,7 +94,7 @@ found_at n (z ∷ slots) zero slot up is = let same : z ≡ slot = some_same z s
 found_at n (z ∷ slots) (suc k) slot up is = let there = found_at (z.segment + 1) slots k slot up.1 is in let low = up.0 in let high = there.0 in
     (omega arith, found_later z slots slot (λ e. absurd (omega arith)) there.1)
 
-module _ (lent : Lent) (k : ℕ) (slot : LentSlot) (up : AscendFrom 0 (segments_in lent.slots.items)) (at : slice_get lent.slots.items k ≡ Some slot) where
+module _ (lent : HeldImages) (k : ℕ) (slot : LentSlot) (up : AscendFrom 0 (segments_in lent.slots.items)) (at : slice_get lent.slots.items k ≡ Some slot) where
   found : slot_of lent.slots.items slot.segment ≡ Some slot
   found = (found_at 0 lent.slots.items k slot up at).1
 
@@ -109,7 +109,7 @@ module _ (lent : Lent) (k : ℕ) (slot : LentSlot) (up : AscendFrom 0 (segments_
 abbrev pub SameBeside : LentSlot → LentSlot → Type 0
 SameBeside a b = beside b ≡ beside a
 
-pub same_beside : (old new : Lent) → the_images.IsSameBeside old new → Each SameBeside old.slots.items new.slots.items
+pub same_beside : (old new : HeldImages) → the_images.IsSameBeside old new → Each SameBeside old.slots.items new.slots.items
 same_beside old new same = record {
   long = sym (length-map new.slots.items beside) ∙ (ap (λ (l : List (ℕ × Option ℕ × Option Picture)). length l) same.1 ∙ length-map old.slots.items beside);
   each = λ k a b a_at b_at. some_same (beside b) (beside a) (sym (got_map beside new.slots.items k b b_at) ∙ (ap (λ (l : List (ℕ × Option ℕ × Option Picture)). slice_get l k) same.1 ∙ got_map beside old.slots.items k a a_at));

@@ -6,7 +6,7 @@ use Rattle.std.proofs.lemmas.List.Folds.{list_any-append}
 use Rattle.std.specs.List.{list_any}
 use Rattle.std.specs.Prelude.{slice_set, IsSome}
 use Rattle.std.proofs.Math.Bool.{and-false as and_false}
-use Rattle.lc_page.specs.declared.entry.Entry.{Entry}
+use Rattle.lc_page.specs.declared.page_entry.PageEntry.{PageEntry}
 use Rattle.lc_page.specs.PageVector.{entry_at, no_entry, touched_at}
 use Rattle.lc_record.specs.declared.record.RangeData.{RangeData}
 use Rattle.lc_record.proofs.ListLemmas.{some_from_is_some as some_token}
@@ -14,59 +14,59 @@ use Rattle.lc_token.specs.Standing.{Standing}
 use Rattle.lc_token.specs.declared.token.Token.{Token}
 use Rattle.lc_node.specs.Touched.{is_on, touched_by, touched_from, touched_pages}
 
-length-touched_from : (ranges : List RangeData) (seq page : ℕ) (entries : List Entry) → length (touched_from ranges seq page entries) ≡ length entries
+length-touched_from : (ranges : List RangeData) (seq page : ℕ) (entries : List PageEntry) → length (touched_from ranges seq page entries) ≡ length entries
 length-touched_from ranges seq page [] = refl
 length-touched_from ranges seq page (entry ∷ entries) = ap suc (length-touched_from ranges seq (suc page) entries)
 
-entry-touched_from : (ranges : List RangeData) (seq page : ℕ) (entries : List Entry) (k at : ℕ) → k < length entries → at ≡ page + k
+entry-touched_from : (ranges : List RangeData) (seq page : ℕ) (entries : List PageEntry) (k at : ℕ) → k < length entries → at ≡ page + k
     → entry_at (touched_from ranges seq page entries) k ≡ touched_by ranges seq at (entry_at entries k)
 entry-touched_from ranges seq page [] k at l e = absurd (omega arith)
 entry-touched_from ranges seq page (entry ∷ entries) zero at l e = let same : page ≡ at = omega arith in ap (λ (p : ℕ). touched_by ranges seq p entry) same
 entry-touched_from ranges seq page (entry ∷ entries) (suc k) at l e = entry-touched_from ranges seq (suc page) entries k at (omega arith) (omega arith)
 
-pub length-touched_pages : (ranges : List RangeData) (seq : ℕ) (entries : List Entry) → length (touched_pages ranges seq entries) ≡ length entries
+pub length-touched_pages : (ranges : List RangeData) (seq : ℕ) (entries : List PageEntry) → length (touched_pages ranges seq entries) ≡ length entries
 length-touched_pages ranges seq entries = length-touched_from ranges seq 0 entries
 
-pub entry-touched_pages : (ranges : List RangeData) (seq : ℕ) (entries : List Entry) (page : ℕ) → page < length entries
+pub entry-touched_pages : (ranges : List RangeData) (seq : ℕ) (entries : List PageEntry) (page : ℕ) → page < length entries
     → entry_at (touched_pages ranges seq entries) page ≡ touched_by ranges seq page (entry_at entries page)
 entry-touched_pages ranges seq entries page l = entry-touched_from ranges seq 0 entries page page l (omega arith)
 
 -- One range after another
 
-none_from : (seq page : ℕ) (entries : List Entry) → touched_from [] seq page entries ≡ entries
+none_from : (seq page : ℕ) (entries : List PageEntry) → touched_from [] seq page entries ≡ entries
 none_from seq page [] = refl
-none_from seq page (entry ∷ entries) = ap (λ (l : List Entry). entry ∷ l) (none_from seq (suc page) entries)
+none_from seq page (entry ∷ entries) = ap (λ (l : List PageEntry). entry ∷ l) (none_from seq (suc page) entries)
 
-pub touched_none : (seq : ℕ) (entries : List Entry) → touched_pages [] seq entries ≡ entries
+pub touched_none : (seq : ℕ) (entries : List PageEntry) → touched_pages [] seq entries ≡ entries
 touched_none seq entries = none_from seq 0 entries
 
-touched_if : Bool → ℕ → Entry → Entry
+touched_if : Bool → ℕ → PageEntry → PageEntry
 touched_if b seq entry = cond b (touched_at entry seq) entry
 
 -- what is touched twice is as if touched once
-touched_either : (a b : Bool) (seq : ℕ) (entry : Entry) → touched_if (a || (b || false)) seq entry ≡ touched_if (b || false) seq (touched_if a seq entry)
+touched_either : (a b : Bool) (seq : ℕ) (entry : PageEntry) → touched_if (a || (b || false)) seq entry ≡ touched_if (b || false) seq (touched_if a seq entry)
 unfolding touched_if
 touched_either true true seq entry = let same : max entry.touched seq ≡ max (max entry.touched seq) seq = omega arith in ap (λ (n : ℕ). record entry { touched = n }) same
 touched_either true false seq entry = refl
 touched_either false true seq entry = refl
 touched_either false false seq entry = refl
 
-by_more : (ranges : List RangeData) (range : RangeData) (seq page : ℕ) (entry : Entry)
+by_more : (ranges : List RangeData) (range : RangeData) (seq page : ℕ) (entry : PageEntry)
     → touched_by (ranges ++ range ∷ []) seq page entry ≡ touched_by (range ∷ []) seq page (touched_by ranges seq page entry)
 unfolding touched_if
 by_more ranges range seq page entry =
     ap (λ (b : Bool). touched_if b seq entry) (list_any-append (is_on page) ranges (range ∷ []))
     ∙ touched_either (list_any (is_on page) ranges) (is_on page range) seq entry
 
-from_more : (ranges : List RangeData) (range : RangeData) (seq page : ℕ) (entries : List Entry)
+from_more : (ranges : List RangeData) (range : RangeData) (seq page : ℕ) (entries : List PageEntry)
     → touched_from (ranges ++ range ∷ []) seq page entries ≡ touched_from (range ∷ []) seq page (touched_from ranges seq page entries)
 from_more ranges range seq page [] = refl
 from_more ranges range seq page (entry ∷ entries) =
-    ap (λ (e : Entry). e ∷ touched_from (ranges ++ range ∷ []) seq (suc page) entries) (by_more ranges range seq page entry)
-    ∙ ap (λ (l : List Entry). touched_by (range ∷ []) seq page (touched_by ranges seq page entry) ∷ l) (from_more ranges range seq (suc page) entries)
+    ap (λ (e : PageEntry). e ∷ touched_from (ranges ++ range ∷ []) seq (suc page) entries) (by_more ranges range seq page entry)
+    ∙ ap (λ (l : List PageEntry). touched_by (range ∷ []) seq page (touched_by ranges seq page entry) ∷ l) (from_more ranges range seq (suc page) entries)
 
 -- one range more
-pub touched_more : (ranges : List RangeData) (range : RangeData) (seq : ℕ) (entries : List Entry)
+pub touched_more : (ranges : List RangeData) (range : RangeData) (seq : ℕ) (entries : List PageEntry)
     → touched_pages (ranges ++ range ∷ []) seq entries ≡ touched_pages (range ∷ []) seq (touched_pages ranges seq entries)
 touched_more ranges range seq entries = from_more ranges range seq 0 entries
 
@@ -84,23 +84,23 @@ behind_page : (range : RangeData) (page : ℕ) → range.offset + length range.b
 behind_page range page behind =
     rw (le-ltb (page * 256) (range.offset + length range.bytes) behind, and_false (nat_lt range.offset (page * 256 + 256))) (and_false (nat_lt 0 (length range.bytes)))
 
-by_on : (range : RangeData) (seq page : ℕ) (entry : Entry) → is_on page range ≡ true → touched_by (range ∷ []) seq page entry ≡ touched_at entry seq
+by_on : (range : RangeData) (seq page : ℕ) (entry : PageEntry) → is_on page range ≡ true → touched_by (range ∷ []) seq page entry ≡ touched_at entry seq
 by_on range seq page entry on = ap (λ (b : Bool). cond (b || false) (touched_at entry seq) entry) on
 
-by_off : (range : RangeData) (seq page : ℕ) (entry : Entry) → is_on page range ≡ false → touched_by (range ∷ []) seq page entry ≡ entry
+by_off : (range : RangeData) (seq page : ℕ) (entry : PageEntry) → is_on page range ≡ false → touched_by (range ∷ []) seq page entry ≡ entry
 by_off range seq page entry off = ap (λ (b : Bool). cond (b || false) (touched_at entry seq) entry) off
 
 empty_page : (range : RangeData) (page : ℕ) → length range.bytes ≡ 0 → is_on page range ≡ false
 empty_page range page empty = rw (le-ltb 0 (length range.bytes) (omega arith)) refl
 
 -- the entries of the pages below this one are touched so, and the others are as they were
-pub record TouchedBelow (range : RangeData) (below seq : ℕ) (old new : List Entry) : Type 0 where
+pub record TouchedBelow (range : RangeData) (below seq : ℕ) (old new : List PageEntry) : Type 0 where
   pub same_count : length new ≡ length old
   pub in_front : (page : ℕ) → page < below → page < length old → entry_at new page ≡ touched_by (range ∷ []) seq page (entry_at old page)
   pub behind : (page : ℕ) → below ≤ page → entry_at new page ≡ entry_at old page
 
 pub record Touching (range : RangeData) (below : ℕ) (token : Token) (old new : Standing) : Type 0 where
-  pub pages : List Entry
+  pub pages : List PageEntry
   pub is : new ≡ record old { token = Some (record token { pages = pages }) }
   pub touched : TouchedBelow range below token.seq token.pages pages
 
@@ -115,13 +115,13 @@ touching_start range below token place first is = record {
   };
 }
 
-pages_step : (range : RangeData) (below seq : ℕ) (old now : List Entry) → TouchedBelow range below seq old now → is_on below range ≡ true → below < length old
+pages_step : (range : RangeData) (below seq : ℕ) (old now : List PageEntry) → TouchedBelow range below seq old now → is_on below range ≡ true → below < length old
     → TouchedBelow range (below + 1) seq old (slice_set now below (touched_at (entry_at now below) seq))
 pages_step range below seq old now h on within =
-    let x : Entry = touched_at (entry_at now below) seq in
+    let x : PageEntry = touched_at (entry_at now below) seq in
     let here : entry_at (slice_set now below x) below ≡ touched_by (range ∷ []) seq below (entry_at old below) =
     get_or-set_same now below x no_entry (omega (arith, h.same_count))
-    ∙ (ap (λ (e : Entry). touched_at e seq) (h.behind below (omega arith)) ∙ sym (by_on range seq below (entry_at old below) on)) in
+    ∙ (ap (λ (e : PageEntry). touched_at e seq) (h.behind below (omega arith)) ∙ sym (by_on range seq below (entry_at old below) on)) in
     let other : (page : ℕ) → page ≢ below → entry_at (slice_set now below x) page ≡ entry_at now page =
     λ page differ. get_or-set_other now below page x no_entry differ in record {
       same_count = length-set now below x ∙ h.same_count;
@@ -138,7 +138,7 @@ pub touching_step : (range : RangeData) (below : ℕ) (token : Token) (old now n
     → Touching range (below + 1) token old next
 touching_step range below token old now next h some begins ends within is =
     let t : Token = record token { pages = h.pages } in
-    let after : List Entry = slice_set h.pages below (touched_at (entry_at h.pages below) token.seq) in record {
+    let after : List PageEntry = slice_set h.pages below (touched_at (entry_at h.pages below) token.seq) in record {
       pages = after;
       is =
           is t (ap (λ (p : Standing). p.token) h.is)
@@ -146,7 +146,7 @@ touching_step range below token old now next h some begins ends within is =
       touched = pages_step range below token.seq token.pages h.pages h.touched (on_page range below some begins ends) within;
     }
 
-all_touched : (range : RangeData) (below seq : ℕ) (old new : List Entry) → TouchedBelow range below seq old new
+all_touched : (range : RangeData) (below seq : ℕ) (old new : List PageEntry) → TouchedBelow range below seq old new
     → ((page : ℕ) → below ≤ page → page < length old → is_on page range ≡ false) → new ≡ touched_pages (range ∷ []) seq old
 all_touched range below seq old new h off = ext_get_or no_entry new (touched_pages (range ∷ []) seq old) (h.same_count ∙ sym (length-touched_pages (range ∷ []) seq old)) (λ page l.
     let among : page < length old = omega (arith, h.same_count) in
@@ -160,7 +160,7 @@ touching_all : (range : RangeData) (below : ℕ) (token : Token) (old new : Stan
     → ((page : ℕ) → below ≤ page → page < length token.pages → is_on page range ≡ false)
     → new ≡ record old { token = Some (record token { pages = touched_pages (range ∷ []) token.seq token.pages }) }
 touching_all range below token old new h off =
-    h.is ∙ ap (λ (es : List Entry). record old { token = Some (record token { pages = es }) }) (all_touched range below token.seq token.pages h.pages h.touched off)
+    h.is ∙ ap (λ (es : List PageEntry). record old { token = Some (record token { pages = es }) }) (all_touched range below token.seq token.pages h.pages h.touched off)
 
 -- up to the last page with a byte of the range, or to the last of all
 pub touching_end : (range : RangeData) (below : ℕ) (token : Token) (old new : Standing) → Touching range below token old new
@@ -179,16 +179,16 @@ pub one_more_range : (ranges : List RangeData) (range : RangeData) (token : Toke
     → next ≡ record old { token = Some (record token { pages = touched_pages (ranges ++ range ∷ []) token.seq token.pages }) }
 one_more_range ranges range token old now next is more =
     let t : Token = record token { pages = touched_pages ranges token.seq token.pages } in
-    let pages : List Entry = touched_pages (range ∷ []) token.seq t.pages in
+    let pages : List PageEntry = touched_pages (range ∷ []) token.seq t.pages in
     more t (ap (λ (p : Standing). p.token) is)
     ∙ (ap (λ (p : Standing). record p { token = Some (record token { pages = pages }) }) is
-    ∙ ap (λ (es : List Entry). record old { token = Some (record token { pages = es }) }) (sym (touched_more ranges range token.seq token.pages)))
+    ∙ ap (λ (es : List PageEntry). record old { token = Some (record token { pages = es }) }) (sym (touched_more ranges range token.seq token.pages)))
 
 -- no range touches nothing
 pub no_range : (token : Token) (place : Standing) → place.token ≡ Some token → place ≡ record place { token = Some (record token { pages = touched_pages [] token.seq token.pages }) }
 no_range token place is =
     ap (λ o. record place { token = o }) is
-    ∙ ap (λ (es : List Entry). record place { token = Some (record token { pages = es }) }) (sym (touched_none token.seq token.pages))
+    ∙ ap (λ (es : List PageEntry). record place { token = Some (record token { pages = es }) }) (sym (touched_none token.seq token.pages))
 
 same_token : (x y : Token) → Some x ≡ Some y → x ≡ y
 same_token x y is = cc

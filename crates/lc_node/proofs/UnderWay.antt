@@ -8,7 +8,7 @@ use Rattle.lc_page.specs.PageVector.{entry_at, entry_text, is_dirty, settled, se
 use Rattle.lc_page.specs.PageWrite.{IsBegun, KeepsPage, SettledIn}
 use Rattle.lc_page.specs.Writing.{IsOver, IsUnderWay, calls_of, draft_of}
 use Rattle.lc_page.specs.declared.draft.Draft.{Draft}
-use Rattle.lc_page.specs.declared.entry.Entry.{Entry}
+use Rattle.lc_page.specs.declared.page_entry.PageEntry.{PageEntry}
 use Rattle.lc_page.specs.declared.page_text.PageText.{PageText}
 use Rattle.lc_page.specs.declared.writing.Writing.{Writing}
 use Rattle.lc_page.specs.declared.writing.Writing.TheVariants.{AtClosing, AtClosed, AtFilling, AtFilled, AtOpening}
@@ -58,7 +58,7 @@ fewer_left write next writes more =
 
 -- The entry of a page once it was written, if it was dirty
 
-pub by_dirty : (P : Entry → Type 0) (e : Entry) (seq : ℕ) → (is_dirty e ≡ true → P (settled e seq)) → (is_dirty e ≡ false → P e) → P (if is_dirty e then settled e seq else e)
+pub by_dirty : (P : PageEntry → Type 0) (e : PageEntry) (seq : ℕ) → (is_dirty e ≡ true → P (settled e seq)) → (is_dirty e ≡ false → P e) → P (if is_dirty e then settled e seq else e)
 by_dirty P e seq put kept = elim (is_dirty e) as (λ b. is_dirty e ≡ b → P (if b then settled e seq else e)) [ true ↦ put | false ↦ kept ] refl
 
 pub after_dirty : (token : Token) (page : ℕ) → is_dirty (entry_at token.pages page) ≡ true → entry_after token page ≡ settled (entry_at token.pages page) token.seq
@@ -118,7 +118,7 @@ module _ {D : Type 0} (a : Ghosts D) where
     writes_before area token bytes front ws each.1,
   )
 
-  fits_kept : (since : ℕ) (old new : D) (bytes : List ℕ) (page : ℕ) (e : Entry) → KeepsPage a page old new → FitsPage a since old bytes page e → FitsPage a since new bytes page e
+  fits_kept : (since : ℕ) (old new : D) (bytes : List ℕ) (page : ℕ) (e : PageEntry) → KeepsPage a page old new → FitsPage a since old bytes page e → FitsPage a since new bytes page e
   fits_kept since old new bytes page e keeps fits = record {
     settled_in = λ honest. (let was : a.honest old ≡ true = sym keeps.honest ∙ honest in
         kept_settled (a.now old) (a.now new) (a.dirty old) (a.dirty new) page (entry_text e) (keeps.inside was) (fits.settled_in was));
@@ -156,7 +156,7 @@ module _ {D : Type 0} (a : Ghosts D) where
       → draft.seq ≡ token.seq → draft.bytes ≡ page_bytes bytes draft.page → IsOverAt a since area token bytes draft.page
   over_fits since area token bytes front write draft over dirty seq content = record {
     fits =
-        subst (λ (e : Entry). FitsPage a since area bytes draft.page e) (sym (after_dirty token draft.page dirty)) (record {
+        subst (λ (e : PageEntry). FitsPage a since area bytes draft.page e) (sym (after_dirty token draft.page dirty)) (record {
           settled_in = subst (λ (n : ℕ). SettledIn a area draft.page (settled_text (entry_text (entry_at token.pages draft.page)) n)) seq over.settled;
           same = λ clean late honest. ap (λ (p : Page). p.content) (over.page honest).reads ∙ content;
         });
@@ -206,7 +206,7 @@ module _ {D : Type 0} (a : Ghosts D) where
     others = λ page before within none. elim (cases_eq page front) [
       | inl equal ↦
           subst (λ (n : ℕ). IsOverAt a since area token bytes n) (sym equal) (record {
-            fits = subst (λ (e : Entry). FitsPage a since area bytes front e) (sym (after_clean token front clean)) (h.behind front (omega arith) (omega (arith, within, equal)));
+            fits = subst (λ (e : PageEntry). FitsPage a since area bytes front e) (sym (after_clean token front clean)) (h.behind front (omega arith) (omega (arith, within, equal)));
             wrote = λ dirty. absurd (true≢false (sym dirty ∙ clean));
           })
       | inr differ ↦ h.others page (omega (arith, before, differ)) within none

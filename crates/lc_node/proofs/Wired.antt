@@ -13,7 +13,7 @@ use Rattle.lc_node.specs.Spread.{line_of}
 use Rattle.lc_node.specs.Wiring.{AreNumbered, HasSends, HasTakes, HasPeers, IsUnsent, IsUntaken, IsUnused, end_to, inbox_from, IsLine, AreLines, AreWired}
 use Rattle.lc_node.specs.declared.peer_end.PeerEnd.{PeerEnd}
 use Rattle.lc_node.specs.declared.peer_inbox.PeerInbox.{PeerInbox}
-use Rattle.lc_node.specs.declared.wiring.Ends.{Ends}
+use Rattle.lc_node.specs.declared.wiring.NodeEnds.{NodeEnds}
 use Rattle.lc_node.proofs.PeerPlaces.{place_below, place_above}
 
 -- How many ends there are
@@ -97,23 +97,23 @@ module _ {A : Type 0} where
 -- The lists of a node's ends
 
 module _ {P : Type 0} where
-  got_end : (all : List (Ends P)) (node peer : ℕ) (mine : Ends P) → slice_get all node ≡ Some mine → end_to all node peer ≡ slice_get mine.to.ends.items (place_of node peer)
-  got_end all node peer mine at = ap (λ (o : Option (Ends P)). option_and_then (λ (m : Ends P). slice_get m.to.ends.items (place_of node peer)) o) at
+  got_end : (all : List (NodeEnds P)) (node peer : ℕ) (mine : NodeEnds P) → slice_get all node ≡ Some mine → end_to all node peer ≡ slice_get mine.to.ends.items (place_of node peer)
+  got_end all node peer mine at = ap (λ (o : Option (NodeEnds P)). option_and_then (λ (m : NodeEnds P). slice_get m.to.ends.items (place_of node peer)) o) at
 
-  got_inbox : (all : List (Ends P)) (node peer : ℕ) (mine : Ends P) → slice_get all node ≡ Some mine → inbox_from all node peer ≡ slice_get mine.from.ends.items (place_of node peer)
-  got_inbox all node peer mine at = ap (λ (o : Option (Ends P)). option_and_then (λ (m : Ends P). slice_get m.from.ends.items (place_of node peer)) o) at
+  got_inbox : (all : List (NodeEnds P)) (node peer : ℕ) (mine : NodeEnds P) → slice_get all node ≡ Some mine → inbox_from all node peer ≡ slice_get mine.from.ends.items (place_of node peer)
+  got_inbox all node peer mine at = ap (λ (o : Option (NodeEnds P)). option_and_then (λ (m : NodeEnds P). slice_get m.from.ends.items (place_of node peer)) o) at
 
   -- A line from one node to another, whose ends go after those that they have
-  module _ (from to : ℕ) (all : List (Ends P)) (peer : PeerEnd P) (inbox : PeerInbox P) (sender receiver sender_new receiver_new : Ends P)
+  module _ (from to : ℕ) (all : List (NodeEnds P)) (peer : PeerEnd P) (inbox : PeerInbox P) (sender receiver sender_new receiver_new : NodeEnds P)
       (differ : from ≢ to)
       (sender_at : slice_get all from ≡ Some sender) (receiver_at : slice_get all to ≡ Some receiver)
       (sender_to : sender_new.to.ends.items ≡ sender.to.ends.items ++ peer ∷ []) (sender_from : sender_new.from.ends.items ≡ sender.from.ends.items)
       (receiver_from : receiver_new.from.ends.items ≡ receiver.from.ends.items ++ inbox ∷ []) (receiver_to : receiver_new.to.ends.items ≡ receiver.to.ends.items)
       (sender_number : sender_new.from.node ≡ sender.from.node) (receiver_number : receiver_new.from.node ≡ receiver.from.node) where
-    abbrev with_sender : List (Ends P)
+    abbrev with_sender : List (NodeEnds P)
     with_sender = set all from sender_new
 
-    abbrev with_both : List (Ends P)
+    abbrev with_both : List (NodeEnds P)
     with_both = set with_sender to receiver_new
 
     at_sender : slice_get with_both from ≡ Some sender_new
@@ -125,12 +125,12 @@ module _ {P : Type 0} where
     at_other : (node : ℕ) → node ≢ from → node ≢ to → slice_get with_both node ≡ slice_get all node
     at_other node not_from not_to = get_other with_sender to node receiver_new not_to ∙ get_other all from node sender_new not_from
 
-    by_node : (Q : ℕ → Ends P → Type 0) → Q from sender_new → Q to receiver_new → ((node : ℕ) (mine : Ends P) → node ≢ from → node ≢ to → slice_get all node ≡ Some mine → Q node mine)
-        → (node : ℕ) (mine : Ends P) → slice_get with_both node ≡ Some mine → Q node mine
+    by_node : (Q : ℕ → NodeEnds P → Type 0) → Q from sender_new → Q to receiver_new → ((node : ℕ) (mine : NodeEnds P) → node ≢ from → node ≢ to → slice_get all node ≡ Some mine → Q node mine)
+        → (node : ℕ) (mine : NodeEnds P) → slice_get with_both node ≡ Some mine → Q node mine
     by_node Q here there elsewhere node mine at = dite (dec_eq node from)
-        (λ is. subst (λ (m : Ends P). Q node m) (some_same sender_new mine (sym at_sender ∙ (ap (λ (n : ℕ). slice_get with_both n) (sym is) ∙ at))) (subst (λ (n : ℕ). Q n sender_new) (sym is) here))
+        (λ is. subst (λ (m : NodeEnds P). Q node m) (some_same sender_new mine (sym at_sender ∙ (ap (λ (n : ℕ). slice_get with_both n) (sym is) ∙ at))) (subst (λ (n : ℕ). Q n sender_new) (sym is) here))
         (λ not_from. dite (dec_eq node to)
-        (λ is. subst (λ (m : Ends P). Q node m) (some_same receiver_new mine (sym at_receiver ∙ (ap (λ (n : ℕ). slice_get with_both n) (sym is) ∙ at))) (subst (λ (n : ℕ). Q n receiver_new) (sym is) there))
+        (λ is. subst (λ (m : NodeEnds P). Q node m) (some_same receiver_new mine (sym at_receiver ∙ (ap (λ (n : ℕ). slice_get with_both n) (sym is) ∙ at))) (subst (λ (n : ℕ). Q n receiver_new) (sym is) there))
         (λ not_to. elsewhere node mine not_from not_to (sym (at_other node not_from not_to) ∙ at)))
 
     -- what a node had it has
@@ -141,7 +141,7 @@ module _ {P : Type 0} where
         (λ not_from. dite (dec_eq one to)
         (λ is. subst (λ (n : ℕ). end_to all n other ≡ Some p → end_to with_both n other ≡ Some p) (sym is)
         (λ had. got_end with_both to other receiver_new at_receiver ∙ (ap (λ (l : List (PeerEnd P)). slice_get l (place_of to other)) receiver_to ∙ (sym (got_end all to other receiver receiver_at) ∙ had))) got)
-        (λ not_to. ap (λ (o : Option (Ends P)). option_and_then (λ (m : Ends P). slice_get m.to.ends.items (place_of one other)) o) (at_other one not_from not_to) ∙ got))
+        (λ not_to. ap (λ (o : Option (NodeEnds P)). option_and_then (λ (m : NodeEnds P). slice_get m.to.ends.items (place_of one other)) o) (at_other one not_from not_to) ∙ got))
 
     keeps_inbox : (one other : ℕ) (p : PeerInbox P) → inbox_from all one other ≡ Some p → inbox_from with_both one other ≡ Some p
     keeps_inbox one other p got = dite (dec_eq one to)
@@ -150,7 +150,7 @@ module _ {P : Type 0} where
         (λ not_to. dite (dec_eq one from)
         (λ is. subst (λ (n : ℕ). inbox_from all n other ≡ Some p → inbox_from with_both n other ≡ Some p) (sym is)
         (λ had. got_inbox with_both from other sender_new at_sender ∙ (ap (λ (l : List (PeerInbox P)). slice_get l (place_of from other)) sender_from ∙ (sym (got_inbox all from other sender sender_at) ∙ had))) got)
-        (λ not_from. ap (λ (o : Option (Ends P)). option_and_then (λ (m : Ends P). slice_get m.from.ends.items (place_of one other)) o) (at_other one not_from not_to) ∙ got))
+        (λ not_from. ap (λ (o : Option (NodeEnds P)). option_and_then (λ (m : NodeEnds P). slice_get m.from.ends.items (place_of one other)) o) (at_other one not_from not_to) ∙ got))
 
     keeps_line : (one other : ℕ) → IsLine all one other → IsLine with_both one other
     keeps_line one other line = (line.0, line.1, keeps_end one other line.0 line.2, keeps_inbox other one line.1 line.3, line.4)
@@ -190,7 +190,7 @@ module _ {P : Type 0} where
       }
 
   -- a node has no line to itself
-  pub none_to_itself : (nodes from to : ℕ) (all : List (Ends P)) → to ≡ from → AreWired nodes from to all → AreWired nodes from (to + 1) all
+  pub none_to_itself : (nodes from to : ℕ) (all : List (NodeEnds P)) → to ≡ from → AreWired nodes from to all → AreWired nodes from (to + 1) all
   none_to_itself nodes from to all self wired = record {
     count = wired.count;
     numbers = wired.numbers;
@@ -202,7 +202,7 @@ module _ {P : Type 0} where
   }
 
   -- the lines of a node are all there
-  pub node_wired : (nodes from : ℕ) (all : List (Ends P)) → from < nodes → AreWired nodes from nodes all → AreWired nodes (from + 1) 0 all
+  pub node_wired : (nodes from : ℕ) (all : List (NodeEnds P)) → from < nodes → AreWired nodes from nodes all → AreWired nodes (from + 1) 0 all
   node_wired nodes from all within wired = record {
     count = wired.count;
     numbers = wired.numbers;
@@ -226,22 +226,22 @@ module _ {P : Type 0} where
   }
 
   -- no line yet
-  abbrev pub HasNone : Ends P → Type 0
+  abbrev pub HasNone : NodeEnds P → Type 0
   HasNone mine = (mine.to.ends.items ≡ []) × (mine.from.ends.items ≡ [])
 
   -- and one more, with the next number
-  pub numbered_more : (news olds : List (Ends P)) (x : Ends P) → news ≡ olds ++ x ∷ [] → x.from.node ≡ length olds → AreNumbered olds → AreNumbered news
+  pub numbered_more : (news olds : List (NodeEnds P)) (x : NodeEnds P) → news ≡ olds ++ x ∷ [] → x.from.node ≡ length olds → AreNumbered olds → AreNumbered news
   numbered_more news olds x is number before node mine at =
-      let long : length news ≡ length olds + 1 = ap (λ (l : List (Ends P)). length l) is ∙ length-append olds (x ∷ []) in
+      let long : length news ≡ length olds + 1 = ap (λ (l : List (NodeEnds P)). length l) is ∙ length-append olds (x ∷ []) in
       let within = slice_get_within news node mine at in
-      let got : slice_get (olds ++ x ∷ []) node ≡ Some mine = sym (ap (λ (l : List (Ends P)). slice_get l node) is) ∙ at in
+      let got : slice_get (olds ++ x ∷ []) node ≡ Some mine = sym (ap (λ (l : List (NodeEnds P)). slice_get l node) is) ∙ at in
       dite (dec_le (length olds) node)
       (λ high. let last : node ≡ length olds = omega arith in
       let same : x ≡ mine = some_same x mine (sym (get_last olds x) ∙ (sym (ap (λ (n : ℕ). slice_get (olds ++ x ∷ []) n) last) ∙ got)) in
-      ap (λ (m : Ends P). m.from.node) (sym same) ∙ (number ∙ sym last))
+      ap (λ (m : NodeEnds P). m.from.node) (sym same) ∙ (number ∙ sym last))
       (λ low. before node mine (sym (get_front olds (x ∷ []) node (omega arith)) ∙ got))
 
-  pub none_wired : (nodes : ℕ) (all : List (Ends P)) → length all ≡ nodes → AreNumbered all → All HasNone all → AreWired nodes 0 0 all
+  pub none_wired : (nodes : ℕ) (all : List (NodeEnds P)) → length all ≡ nodes → AreNumbered all → All HasNone all → AreWired nodes 0 0 all
   none_wired nodes all long numbers none = record {
     count = long;
     numbers = numbers;
@@ -263,15 +263,15 @@ module _ {P : Type 0} where
   }
 
   -- all lines are there
-  pub all_wired : (nodes count from : ℕ) (all : List (Ends P)) → count ≡ nodes → from ≡ count → AreWired count from 0 all → AreWired nodes nodes 0 all
+  pub all_wired : (nodes count from : ℕ) (all : List (NodeEnds P)) → count ≡ nodes → from ≡ count → AreWired count from 0 all → AreWired nodes nodes 0 all
   all_wired nodes count from all is end wired = subst (λ n. AreWired n n 0 all) is (subst (λ n. AreWired count n 0 all) end wired)
 
-  pub have_peers : (nodes : ℕ) (all : List (Ends P)) → AreWired nodes nodes 0 all → All (HasPeers nodes) all
+  pub have_peers : (nodes : ℕ) (all : List (NodeEnds P)) → AreWired nodes nodes 0 all → All (HasPeers nodes) all
   have_peers nodes all wired = got_all (HasPeers nodes) all (λ node mine at.
       let is_node : node < nodes = (let l = slice_get_within all node mine at in let n = wired.count in omega arith) in
       let to : length mine.to.ends.items + 1 ≡ nodes = (wired.sends node mine at).below is_node in
       let from : length mine.from.ends.items + 1 ≡ nodes = (wired.takes node mine at).left (omega arith) is_node in
       let whole_to = mine.to.ends.ok.0 in let whole_from = mine.from.ends.ok.0 in (omega arith, omega arith))
 
-  pub are_lines : (nodes : ℕ) (all : List (Ends P)) → AreWired nodes nodes 0 all → AreLines nodes all
+  pub are_lines : (nodes : ℕ) (all : List (NodeEnds P)) → AreWired nodes nodes 0 all → AreLines nodes all
   are_lines nodes all wired = wired.lines

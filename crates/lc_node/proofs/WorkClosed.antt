@@ -1,7 +1,7 @@
 -- A record of what a work did is closed.
 use Rattle.std.proofs.Common.{ℕ, List, [], refl}
 use Rattle.std.specs.Prelude.{Ok}
-use Rattle.lc_stage.specs.declared.view.View.{View}
+use Rattle.lc_stage.specs.declared.stage_view.StageView.{StageView}
 use Rattle.lc_tx.specs.Tx.{IsSetOf}
 use Rattle.lc_node.specs.Commits.{ClosesWork, CommitsWork, IsKeptTidy, bytes_at, segments_in}
 use Rattle.lc_node.specs.Each.{Each}
@@ -11,7 +11,7 @@ use Rattle.lc_node.proofs.Runs.{brings_among, ran_among, ran_as}
 use Rattle.lc_node.proofs.SideBytes.{taken_bytes, tidy_bytes}
 
 module _ {D : Type 0} {tells : Tells} (node : ℕ) (asked : List ℕ) (olds news : List (HeldSide D)) (of : IsSetOf asked (segments_in olds)) where
-  pub closes_work : (v w : View) → CommitsWork node tells olds news v w → ClosesWork node tells asked v w
+  pub closes_work : (v w : StageView) → CommitsWork node tells olds news v w → ClosesWork node tells asked v w
   closes_work v w c = record {
     old = bytes_at olds;
     new = bytes_at news;

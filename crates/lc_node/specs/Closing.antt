@@ -7,7 +7,7 @@ use Rattle.lc_node.specs.Wiring.{end_to, inbox_from}
 use Rattle.lc_node.specs.declared.message.Message.{Message}
 use Rattle.lc_node.specs.declared.peer_end.PeerEnd.{PeerEnd}
 use Rattle.lc_node.specs.declared.peer_inbox.PeerInbox.{PeerInbox}
-use Rattle.lc_node.specs.declared.wiring.Ends.{Ends}
+use Rattle.lc_node.specs.declared.wiring.NodeEnds.{NodeEnds}
 
 module _ {P : Type 0} where
   -- the token that is kept to be gone on with, if one is
@@ -32,7 +32,7 @@ module _ {P : Type 0} where
   Gives to from tokens = (peer : PeerEnd P) (inbox : PeerInbox P) → to ≡ Some peer → from ≡ Some inbox → StandIn (left_on peer inbox) tokens
 
   -- so it is with each line
-  abbrev pub GivesAll : List (Ends P) → List P → Type 0
+  abbrev pub GivesAll : List (NodeEnds P) → List P → Type 0
   GivesAll all tokens = (from to : ℕ) → from < length all → to < length all → from ≢ to → Gives (end_to all from to) (inbox_from all to from) tokens
 
   -- there are some more after those that there were
@@ -40,16 +40,16 @@ module _ {P : Type 0} where
   Grows old new = (more : List P) × (new ≡ old ++ more)
 
   -- the first end to a peer and the first one from a peer are gone
-  pub record IsBehindFirst (old new : Ends P) : Type 0 where
+  pub record IsBehindFirst (old new : NodeEnds P) : Type 0 where
     pub to : new.to.ends.items ≡ drop 1 old.to.ends.items
     pub from : new.from.ends.items ≡ drop 1 old.from.ends.items
 
   -- both lines between a node and a peer, at this place among its ends and the first among the peer's
-  pub record AreJoined (place : ℕ) (mine peer : Ends P) : Type 0 where
+  pub record AreJoined (place : ℕ) (mine peer : NodeEnds P) : Type 0 where
     pub there : AreOfOne (slice_get mine.to.ends.items place) (slice_get peer.from.ends.items 0)
     pub back : AreOfOne (slice_get peer.to.ends.items 0) (slice_get mine.from.ends.items place)
 
   -- and their tokens
-  pub record GivesBoth (place : ℕ) (mine peer : Ends P) (tokens : List P) : Type 0 where
+  pub record GivesBoth (place : ℕ) (mine peer : NodeEnds P) (tokens : List P) : Type 0 where
     pub there : Gives (slice_get mine.to.ends.items place) (slice_get peer.from.ends.items 0) tokens
     pub back : Gives (slice_get peer.to.ends.items 0) (slice_get mine.from.ends.items place) tokens

@@ -1,7 +1,7 @@
 -- What a flush does.
 use Rattle.std.specs.Prelude.{◌≡◌, ◌⊎◌, ℕ, ◌+◌, true, false, List, [], ◌∷◌, ◌++◌, length}
 use Rattle.lc_disk.specs.declared.area.Area.{Ghosts}
-use Rattle.lc_stage.specs.declared.view.View.{View}
+use Rattle.lc_stage.specs.declared.stage_view.StageView.{StageView}
 use Rattle.lc_stage.specs.Seats.{flush_view, OnlyTakes, EndsAt, publishing}
 use Rattle.lc_node.specs.Among.{AreInFront}
 use Rattle.lc_node.specs.LogView.{LogView}
@@ -16,7 +16,7 @@ module _ {D : Type 0} where
   -- published
   pub record Flushes (room : ℕ) (old : LogView D) (count : ℕ) (new : LogView D) : Type 0 where
     pub words : List ℕ
-    pub taking : View
+    pub taking : StageView
     pub takes : OnlyTakes (flush_view old.flusher) taking
     pub taken : taking.taken ≡ (flush_view old.flusher).taken ++ words
     pub ends : EndsAt room (flush_view old.flusher) taking

@@ -1,6 +1,6 @@
 -- What a caller holds of a node.
 use Rattle.std.specs.Prelude.{◌≡◌, ◌⊎◌, ◌+◌, ◌≤◌, ℕ, List, [], ◌∷◌, length, map, None, Some, IsSome, slice_get}
-use Rattle.lc_lock.specs.declared.lock.Lock.{Lock}
+use Rattle.lc_lock.specs.declared.ticket_lock.TicketLock.{TicketLock}
 use Rattle.lc_lock.specs.Loans.{IsLoanOf}
 use Rattle.lc_node.specs.SegView.{SegView}
 use Rattle.lc_node.specs.declared.held.HeldSide.{HeldSide}
@@ -12,7 +12,7 @@ use Rattle.lc_node.specs.declared.node_fault.NodeFault.TheVariants.{NotHere, NoM
 module _ {D : Type 0} where
   -- the segment stands at this place of the node, whose lock lent it, and its image is here
   abbrev pub IsHeldOf : Node D → HeldSide D → Type 0
-  IsHeldOf node held = (place : ℕ) × (lock : Lock (SegView D) ℕ) × (slice_get node.segments.items place ≡ Some lock) × (held.side.segment ≡ place + 1) × IsLoanOf lock held.loan × IsSome held.side.image
+  IsHeldOf node held = (place : ℕ) × (lock : TicketLock (SegView D) ℕ) × (slice_get node.segments.items place ≡ Some lock) × (held.side.segment ≡ place + 1) × IsLoanOf lock held.loan × IsSome held.side.image
 
   -- the node has the segment
   abbrev pub HasSegment : Node D → ℕ → Type 0

@@ -1,11 +1,11 @@
 -- What a cluster takes of memory before its nodes come up.
 use Rattle.std.specs.Prelude.{◌≡◌, ◌≤◌, ℕ, [], All, vec_capacity, vec_len}
 use Rattle.lc_node.specs.Keys.{AreWiredAs, HasOneKey, wired_in}
-use Rattle.lc_node.specs.declared.joining.Room.{Room}
+use Rattle.lc_node.specs.declared.joining.ClusterRoom.{ClusterRoom}
 
 module _ {D : Type 0} where
   -- a post for each node, with a place for each node and each seat
-  pub record IsRoomFor (nodes : ℕ) (room : Room D) : Type 0 where
+  pub record IsRoomFor (nodes : ℕ) (room : ClusterRoom D) : Type 0 where
     pub few : nodes ≤ 65535
     pub count : vec_len room.posts ≡ nodes
     pub wired : AreWiredAs nodes (wired_in room.posts.items)

@@ -4,7 +4,7 @@ use Rattle.std.specs.Global.{Vec}
 use Rattle.std.specs.List.{flat_map}
 use Rattle.lc_disk.specs.declared.area.Area.{Ghosts}
 use Rattle.lc_lock.specs.Loans.{key_of}
-use Rattle.lc_lock.specs.declared.lock.Lock.{Lock}
+use Rattle.lc_lock.specs.declared.ticket_lock.TicketLock.{TicketLock}
 use Rattle.lc_page.specs.PageVector.{entry_at, entry_text}
 use Rattle.lc_page.specs.PageWrite.{SettledIn}
 use Rattle.lc_record.specs.declared.geometry.Geometry.{Geometry}
@@ -12,8 +12,8 @@ use Rattle.lc_stage.specs.Seats.{commit_view, flush_view, IsIdle, IsSeatOf, Only
 use Rattle.lc_stage.specs.Staging.{Owns, end_of}
 use Rattle.lc_stage.specs.declared.seats.CommitSeat.{CommitSeat}
 use Rattle.lc_stage.specs.declared.stage.Stage.{Stage}
-use Rattle.lc_stage.specs.declared.view.Reservation.{Reservation}
-use Rattle.lc_stage.specs.declared.view.View.{View}
+use Rattle.lc_stage.specs.declared.stage_view.Reservation.{Reservation}
+use Rattle.lc_stage.specs.declared.stage_view.StageView.{StageView}
 use Rattle.lc_token.specs.declared.token.Token.{Token}
 use Rattle.lc_tx.specs.declared.image.Image.{Image as Picture}
 use Rattle.lc_trunc.specs.KnownClean.{known as known_of}
@@ -65,7 +65,7 @@ AreReceived round stable known seats = All (λ (seat : CommitSeat). (r : Reserva
 
 module _ {D : Type 0} where
   -- these are the words that a take finds staged for the log, and the flusher's view once it has taken them
-  pub record IsTake (room : ℕ) (log : LogView D) (taking : View) (words : List ℕ) : Type 0 where
+  pub record IsTake (room : ℕ) (log : LogView D) (taking : StageView) (words : List ℕ) : Type 0 where
     pub takes : OnlyTakes (flush_view log.flusher) taking
     pub words_are : taking.taken ≡ (flush_view log.flusher).taken ++ words
     pub ends : EndsAt room (flush_view log.flusher) taking
@@ -73,7 +73,7 @@ module _ {D : Type 0} where
   -- the log serves, and these words are all that is staged for it: up to each tail that it has seen
   pub record AreAllStaged (room : ℕ) (log : LogView D) (words : List ℕ) : Type 0 where
     pub serves : log.is_halted ≡ false
-    pub taking : View
+    pub taking : StageView
     pub take : IsTake room log taking words
     pub all : (commit_view log.probe).seen ≤ end_of taking
 
@@ -124,9 +124,9 @@ module _ {D : Type 0} where
   -- the segments that stood behind a node's locks, each of which is the one that its lock knows. These are their
   -- images, and the numbers up to which their records are applied; no call of an area failed; and their tokens go after
   -- the old ones
-  pub record StoodBehind (node : ℕ) (locks : List (Lock (SegView D) ℕ)) (images : List Picture) (applied : List ℕ) (old new : List (SegmentPart D)) : Type 0 where
+  pub record StoodBehind (node : ℕ) (locks : List (TicketLock (SegView D) ℕ)) (images : List Picture) (applied : List ℕ) (old new : List (SegmentPart D)) : Type 0 where
     pub sides : List (SegView D)
-    pub segments : map (λ (side : SegView D). side.segment) sides ≡ map (λ (lock : Lock (SegView D) ℕ). key_of lock) locks
+    pub segments : map (λ (side : SegView D). side.segment) sides ≡ map (λ (lock : TicketLock (SegView D) ℕ). key_of lock) locks
     pub images_are : map (λ (side : SegView D). side.image) sides ≡ map (λ (image : Picture). Some image) images
     pub applied_are : map (λ (side : SegView D). side.backlog.applied) sides ≡ applied
     pub serve : All (λ (side : SegView D). HasFailed side.pages → ⊥) sides

@@ -23,13 +23,13 @@ pub mod Laid
 pub mod Leaving
 pub mod LeftBy
 pub mod Refusals
-pub mod Lent
+pub mod HeldImages
 pub mod LogSide
 pub mod LogView
 pub mod Logs
 pub mod MakingRoom
 pub mod Messages
-pub mod Opened
+pub mod OpenedNode
 pub mod Pages
 pub mod Peers
 pub mod Published

@@ -1,7 +1,7 @@
 -- How the area of a segment's pages stands to what the segment's token says of them.
 use Rattle.std.specs.Prelude.{◌≡◌, ◌⊎◌, ℕ, ◌*◌, ◌^◌, ◌<◌, ◌≤◌, true, false, max, List, length, take, drop, if◌then◌else◌}
 use Rattle.lc_disk.specs.declared.area.Area.{Ghosts}
-use Rattle.lc_page.specs.declared.entry.Entry.{Entry}
+use Rattle.lc_page.specs.declared.page_entry.PageEntry.{PageEntry}
 use Rattle.lc_page.specs.Page.{page_in}
 use Rattle.lc_page.specs.PageVector.{entry_at, entry_text, is_dirty, settled}
 use Rattle.lc_page.specs.PageWrite.{SettledIn}
@@ -15,7 +15,7 @@ page_bytes bytes page = take 256 (drop (page * 256) bytes)
 module _ {D : Type 0} (a : Ghosts D) where
   -- in every image the area says of the page what its entry does, and where the page is not dirty, and was written under this
   -- number or a later one, it has the segment's bytes
-  pub record FitsPage (since : ℕ) (area : D) (bytes : List ℕ) (page : ℕ) (entry : Entry) : Type 0 where
+  pub record FitsPage (since : ℕ) (area : D) (bytes : List ℕ) (page : ℕ) (entry : PageEntry) : Type 0 where
     pub settled_in : SettledIn a area page (entry_text entry)
     pub same : is_dirty entry ≡ false → since ≤ entry.stable → a.honest area ≡ true → (page_in (a.now area) page).content ≡ page_bytes bytes page
 
@@ -44,7 +44,7 @@ abbrev pub IsCleanNow : Token → ℕ → Type 0
 IsCleanNow old clean = (AreClean old.pages × (clean ≡ old.clean)) ⊎ (¬ AreClean old.pages × (clean ≡ max old.clean old.seq))
 
 -- the entry of a page once it was written under the token's number, if it was dirty
-abbrev pub entry_after : Token → ℕ → Entry
+abbrev pub entry_after : Token → ℕ → PageEntry
 entry_after old page = if is_dirty (entry_at old.pages page) then settled (entry_at old.pages page) old.seq else entry_at old.pages page
 
 -- the token once each of its dirty pages was written under its number

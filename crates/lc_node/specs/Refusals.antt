@@ -4,9 +4,9 @@ use Rattle.lc_disk.specs.declared.area.Area.{Ghosts}
 use Rattle.lc_record.specs.declared.geometry.Geometry.{Geometry}
 use Rattle.lc_stage.specs.Seats.{commit_view}
 use Rattle.lc_stage.specs.Staging.{end_of}
-use Rattle.lc_stage.specs.declared.view.View.{View}
+use Rattle.lc_stage.specs.declared.stage_view.StageView.{StageView}
 use Rattle.lc_rest.specs.AtRest.{IsFirst}
-use Rattle.lc_rest.specs.declared.part.Part.TheVariants.{Seat, Log, Token}
+use Rattle.lc_rest.specs.declared.cluster_part.ClusterPart.TheVariants.{Seat, Log, Token}
 use Rattle.lc_rest.specs.declared.segment_part.SegmentPart.{SegmentPart}
 use Rattle.lc_node.specs.LeftBy.{AreAllStaged, HasFailed, IsTake}
 use Rattle.lc_node.specs.LogView.{LogView}
@@ -20,7 +20,7 @@ module _ {D : Type 0} where
   -- the log serves, but has seen a tail above the end of what a take finds: something is reserved that was not closed
   pub record IsUnclosed (room : ℕ) (log : LogView D) : Type 0 where
     pub serves : log.is_halted ≡ false
-    pub taking : View
+    pub taking : StageView
     pub words : List ℕ
     pub take : IsTake room log taking words
     pub tail : ℕ

@@ -8,7 +8,7 @@ use Rattle.lc_stage.specs.Staging.{newcomer}
 use Rattle.lc_node.specs.Fresh.{HasWholePages, IsFresh}
 use Rattle.lc_node.specs.Pages.{FitsToken}
 use Rattle.lc_applied.specs.AppliedParts.{laid_parts}
-use Rattle.lc_node.specs.declared.room.Room.{Room}
+use Rattle.lc_node.specs.declared.node_room.NodeRoom.{NodeRoom}
 use Rattle.lc_node.specs.declared.seg_room.SegRoom.{SegRoom}
 use Rattle.lc_node.specs.declared.store_room.StoreRoom.{StoreRoom}
 
@@ -30,7 +30,7 @@ module _ {D : Type 0} where
   AreOfSegments rooms = (place : ℕ) (room : SegRoom D) → slice_get rooms place ≡ Some room → IsOfSegment (place + 1) room
 
   -- that of a node of a recovered store
-  pub record IsRoomFor (r : RecoveredStore D) (room : Room D) : Type 0 where
+  pub record IsRoomFor (r : RecoveredStore D) (room : NodeRoom D) : Type 0 where
     pub words : room.log.stage.room ≡ r.geometry.words
     pub seat : commit_view room.log.seat ≡ newcomer r.geometry.words
     pub count : vec_len room.segments ≡ r.geometry.segments
@@ -39,8 +39,8 @@ module _ {D : Type 0} where
     pub space : r.geometry.segments ≤ vec_capacity room.locks
 
   -- that of each of some nodes
-  abbrev pub AreRoomsFor : RecoveredStore D → List (Room D) → Type 0
-  AreRoomsFor r rooms = (node : ℕ) (room : Room D) → slice_get rooms node ≡ Some room → IsRoomFor r room
+  abbrev pub AreRoomsFor : RecoveredStore D → List (NodeRoom D) → Type 0
+  AreRoomsFor r rooms = (node : ℕ) (room : NodeRoom D) → slice_get rooms node ≡ Some room → IsRoomFor r room
 
   -- that of so many nodes, with a place for the area of each segment
   pub record IsStoreRoom (r : RecoveredStore D) (nodes : ℕ) (room : StoreRoom D) : Type 0 where

@@ -5,7 +5,7 @@ use Rattle.lc_stage.specs.Receipts.{IsReceiptOf}
 use Rattle.lc_stage.specs.Seats.{flush_view}
 use Rattle.lc_stage.specs.Staging.{HasReached, latest, learns_durable, with_receipt}
 use Rattle.lc_stage.specs.declared.receipt.Receipt.{Receipt}
-use Rattle.lc_stage.specs.declared.view.View.{View}
+use Rattle.lc_stage.specs.declared.stage_view.StageView.{StageView}
 use Rattle.lc_node.specs.Flushes.{FailsDevice, Flushes}
 use Rattle.lc_node.specs.LogView.{IsSameLog, LogView}
 use Rattle.lc_node.specs.Logs.{IsLogOf}
@@ -14,7 +14,7 @@ use Rattle.lc_node.specs.declared.node_fault.NodeFault.{NodeFault}
 use Rattle.lc_node.specs.declared.node_fault.NodeFault.TheVariants.{DeviceFault, Halted}
 
 -- what a seat is given where this end was published last: a receipt of its last closed record exactly where the end has reached it
-abbrev pub Looks : ℕ → View → Option Receipt → View → Type 0
+abbrev pub Looks : ℕ → StageView → Option Receipt → StageView → Type 0
 Looks x v None w = ¬ HasReached x v × (w ≡ learns_durable x v)
 Looks x v (Some receipt) w = HasReached x v × IsReceiptOf (latest v.mine) receipt × (w ≡ with_receipt (learns_durable x v))
 
@@ -24,7 +24,7 @@ module _ {D : Type 0} where
   published_end log = (flush_view log.flusher).published
 
   -- a seat looked for its receipt in a log of this node
-  pub record LooksIn (node : Node D) (v : View) (found : Option Receipt) (w : View) : Type 0 where
+  pub record LooksIn (node : Node D) (v : StageView) (found : Option Receipt) (w : StageView) : Type 0 where
     pub log : LogView D
     pub own : IsLogOf node log
     pub new_log : LogView D
@@ -38,14 +38,14 @@ module _ {D : Type 0} (a : Ghosts D) where
 
   -- the receipt is there at once, where the published end had reached its record. Else it is looked for after a flush,
   -- which may fail
-  abbrev pub Settles : ℕ → LogView D → View → Result (Option Receipt) NodeFault → View → LogView D → Type 0
+  abbrev pub Settles : ℕ → LogView D → StageView → Result (Option Receipt) NodeFault → StageView → LogView D → Type 0
   Settles room old v (Ok found) w new =
       (IsSome found × Looks (published_end old) v found w × IsSameLog old new)
       ⊎ (¬ HasReached (published_end old) v × Looks (published_end new) v found w × ((count : ℕ) × Flushes room old count new))
   Settles room old v (Err fault) w new = ¬ HasReached (published_end old) v × (w ≡ learns_durable (published_end old) v) × FailsFlush old fault new
 
   -- so it was done with a log of this node
-  pub record SettlesIn (node : Node D) (v : View) (answer : Result (Option Receipt) NodeFault) (w : View) : Type 0 where
+  pub record SettlesIn (node : Node D) (v : StageView) (answer : Result (Option Receipt) NodeFault) (w : StageView) : Type 0 where
     pub log : LogView D
     pub own : IsLogOf node log
     pub new_log : LogView D

@@ -9,10 +9,10 @@ ghost use Rattle.lc_node.specs.Messages.{tokens_among};
 ghost use Rattle.lc_node.specs.Receiving.{origin_of, taken_of};
 ghost use Rattle.lc_node.specs.Spread.{line_of, sent_to};
 ghost use Rattle.lc_node.specs.declared.message.Message.{Message as Sent};
-ghost use Rattle.lc_node.specs.declared.wiring.Ends.{Ends as TheEnds};
+ghost use Rattle.lc_node.specs.declared.wiring.NodeEnds.{NodeEnds as TheEnds};
 
 use crate::joining::Post;
-use crate::wiring::Ends;
+use crate::wiring::NodeEnds;
 use crate::{Message, PeerEnd, PeerInbox};
 use lc_line::{ROOM, Rest, close_line};
 use std::alloc::{AllocError, Global};
@@ -73,8 +73,8 @@ fn close<R: Wait, P: Drop>(
 // Closes both lines between a node and a peer, each of which has its ends of them in front.
 fn close_both<R: Wait, P: Drop>(
     rt: &R,
-    mine: &mut Ends<P>,
-    peer: &mut Ends<P>,
+    mine: &mut NodeEnds<P>,
+    peer: &mut NodeEnds<P>,
     tokens: &mut Vec<P>,
 ) -> Result<(), AllocError>
     requires lines { AreJoined 0 mine.old peer.old }
@@ -90,8 +90,8 @@ fn close_both<R: Wait, P: Drop>(
 // Closes the lines between a node and each of these peers, which have their ends of them in front.
 fn close_with_all<R: Wait, P: Drop>(
     rt: &R,
-    mine: Ends<P>,
-    peers: &mut Vec<Ends<P>>,
+    mine: NodeEnds<P>,
+    peers: &mut Vec<NodeEnds<P>>,
     tokens: &mut Vec<P>,
 ) -> Result<(), AllocError>
     requires lines { (place : ℕ) (peer : TheEnds P) → slice_get peers.old.items place ≡ Some peer → AreJoined place mine peer }
@@ -108,7 +108,7 @@ fn close_with_all<R: Wait, P: Drop>(
 
 impl<P: Drop> Post<P> {
     // The ends, out of their locks, which nobody else has.
-    fn take<R: Wait>(self, rt: &R) -> Ends<P>
+    fn take<R: Wait>(self, rt: &R) -> NodeEnds<P>
         requires one_key { HasOneKey self }
         ensures { AreOnLines (key_of self.to) result }
     {
@@ -117,7 +117,7 @@ impl<P: Drop> Post<P> {
         to.end(loan);
         let (receiving, loan) = from.lock(rt);
         from.end(loan);
-        Ends {
+        NodeEnds {
             to: sending,
             from: receiving,
         }
@@ -129,7 +129,7 @@ pub(crate) fn take_ends<R: Wait, P: Drop>(
     rt: &R,
     alloc: Global,
     posts: Vec<Post<P>>,
-) -> Result<Vec<Ends<P>>, AllocError>
+) -> Result<Vec<NodeEnds<P>>, AllocError>
     requires wired { AreWiredAs (vec_len posts) (wired_in posts.items) }
     requires one_key { All HasOneKey posts.items }
     ensures count { IfOk result (λ all. vec_len all ≡ vec_len posts) }
@@ -148,7 +148,7 @@ pub(crate) fn take_ends<R: Wait, P: Drop>(
 pub(crate) fn close_lines<R: Wait, P: Drop>(
     rt: &R,
     alloc: Global,
-    all: Vec<Ends<P>>,
+    all: Vec<NodeEnds<P>>,
 ) -> Result<Vec<P>, AllocError>
     requires wired { AreWiredAs (vec_len all) all.items }
     ensures { IfOk result (λ tokens. GivesAll all.items tokens.items) }

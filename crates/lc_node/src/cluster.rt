@@ -6,7 +6,7 @@ ghost use Rattle.lc_node.specs.declared.member.Member.{Member as TheMember};
 use crate::dropped::Dropped;
 use crate::member::Member;
 use lc_disk::Area;
-use lc_lock::Lock;
+use lc_lock::TicketLock;
 use lc_record::Geometry;
 
 /// The nodes of a store, numbered from 0, which keep one another's segments current by the records of their logs, and hand
@@ -17,7 +17,7 @@ use lc_record::Geometry;
 pub struct Cluster<D: Area + Drop> {
     pub(crate) geometry: Geometry,
     pub(crate) members: Vec<Member<D>>,
-    pub(crate) dropped: Lock<Dropped, ()>,
+    pub(crate) dropped: TicketLock<Dropped, ()>,
     ghost wired: { AreWiredAs (vec_len members) (wired_by members.items) },
     ghost one_key: { All HasOwnKey members.items },
     ghost numbered: { (place : ℕ) (member : TheMember D) → slice_get members.items place ≡ Some member → member.node.number ≡ place },

@@ -1,6 +1,6 @@
 //! Whether the record of a receipt is in the log.
 ghost use Rattle.std.specs.Prelude.{◌≡◌, ◌≢◌, ◌<◌, ℕ};
-ghost use Rattle.lc_stage.specs.declared.view.Reservation.{Reservation as Run};
+ghost use Rattle.lc_stage.specs.declared.stage_view.Reservation.{Reservation as Run};
 ghost use Rattle.lc_stage.specs.Staging.{Owns};
 ghost use Rattle.lc_stage.specs.Receipts.{IsReceiptOf};
 ghost use Rattle.lc_stage.specs.Seats.{commit_view, IsSeatOf, IsFlusherOf, IsIdle};

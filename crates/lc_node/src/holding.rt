@@ -10,7 +10,7 @@ use crate::boxed_side::BoxedSide;
 use crate::held::{Held, HeldSide};
 use crate::{Node, NodeFault};
 use lc_disk::Area;
-use lc_lock::Lock;
+use lc_lock::TicketLock;
 use std::alloc::Global;
 use std::sync::Wait;
 
@@ -23,7 +23,7 @@ impl<D: Area + Drop> Node<D> {
     }
 
     // The lock of a segment.
-    pub(crate) fn lock_of(&self, segment: u32) -> &Lock<BoxedSide<D>, u32>
+    pub(crate) fn lock_of(&self, segment: u32) -> &TicketLock<BoxedSide<D>, u32>
         requires { HasSegment self.now segment }
         ensures { key_of result.now ≡ segment }
     {

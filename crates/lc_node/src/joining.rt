@@ -9,19 +9,19 @@ ghost use Rattle.lc_node.specs.Cluster.{IsSeatAt};
 ghost use Rattle.lc_lock.specs.Loans.{key_of};
 ghost use Rattle.lc_node.specs.Joining.{IsRoomFor};
 ghost use Rattle.lc_node.specs.Keys.{HasOneKey, wired_in};
-ghost use Rattle.lc_node.specs.Opened.{StandByNumber};
+ghost use Rattle.lc_node.specs.OpenedNode.{StandByNumber};
 ghost use Rattle.lc_node.specs.declared.member.Member.{Member as TheMember};
 ghost use Rattle.lc_node.specs.declared.node_fault.NodeFault.TheVariants.{NoMemory};
 
 use crate::cluster::Cluster;
 use crate::dropped::Dropped;
 use crate::member::Member;
-use crate::opening::{Opened, open_nodes};
+use crate::opening::{OpenedNode, open_nodes};
 use crate::vacant::Vacant;
-use crate::wiring::{Ends, wire};
+use crate::wiring::{NodeEnds, wire};
 use crate::{NodeFault, RecvEnds, SendEnds, Travelling};
 use lc_disk::Area;
-use lc_lock::Lock;
+use lc_lock::TicketLock;
 use lc_record::Geometry;
 use lc_recover::Recovered;
 use lc_stage::CommitSeat;
@@ -50,7 +50,7 @@ impl<D: Area + Drop> Cluster<D> {
         ensures back { IfErr result (λ back. (back.0 ≡ recovered) × (back.1 ≡ NoMemory)) }
     {
         let geometry = recovered.geometry();
-        let Some(room) = Room::new(alloc, geometry.nodes) else {
+        let Some(room) = ClusterRoom::new(alloc, geometry.nodes) else {
             return Err((recovered, NodeFault::NoMemory));
         };
         let opened = open_nodes(alloc, recovered)?;
@@ -61,22 +61,22 @@ impl<D: Area + Drop> Cluster<D> {
 /// A node's ends, each behind its lock. This project's own.
 #[derive(Drop)]
 pub(crate) struct Post<P: Drop> {
-    pub(crate) to: Lock<SendEnds<P>, Ends<P>>,
-    pub(crate) from: Lock<RecvEnds<P>, Ends<P>>,
+    pub(crate) to: TicketLock<SendEnds<P>, NodeEnds<P>>,
+    pub(crate) from: TicketLock<RecvEnds<P>, NodeEnds<P>>,
 }
 
 impl<P: Drop> Post<P> {
     // These ends.
-    fn new(alloc: Global, ends: Ends<P>) -> Option<Post<P>>
+    fn new(alloc: Global, ends: NodeEnds<P>) -> Option<Post<P>>
         ensures key { IfSome result (λ post. key_of post.to ≡ ends) }
         ensures one_key { IfSome result HasOneKey }
     {
         let to = Vacant::new(alloc, &ends).ok()?;
         let Ok(from) = Vacant::new(alloc, &ends) else {
-            to.end();
+            to.discard();
             return None;
         };
-        let Ends {
+        let NodeEnds {
             to: sending,
             from: receiving,
         } = ends;
@@ -88,7 +88,7 @@ impl<P: Drop> Post<P> {
 }
 
 // The ends of all nodes, each behind its lock.
-fn post_all<P: Drop>(alloc: Global, ends: Vec<Ends<P>>) -> Option<Vec<Post<P>>>
+fn post_all<P: Drop>(alloc: Global, ends: Vec<NodeEnds<P>>) -> Option<Vec<Post<P>>>
     ensures keys { IfSome result (λ posts. wired_in posts.items ≡ ends.items) }
     ensures one_key { IfSome result (λ posts. All HasOneKey posts.items) }
 {
@@ -102,16 +102,16 @@ fn post_all<P: Drop>(alloc: Global, ends: Vec<Ends<P>>) -> Option<Vec<Post<P>>>
 
 // What a cluster takes of memory beside its nodes.
 #[derive(Drop)]
-struct Room<D: Area + Drop> {
+struct ClusterRoom<D: Area + Drop> {
     posts: Vec<Post<Travelling<D>>>,
     members: Vec<Member<D>>,
     seats: Vec<CommitSeat>,
-    dropped: Lock<Dropped, ()>,
+    dropped: TicketLock<Dropped, ()>,
 }
 
-impl<D: Area + Drop> Room<D> {
+impl<D: Area + Drop> ClusterRoom<D> {
     // That of a cluster of so many nodes.
-    fn new(alloc: Global, nodes: u16) -> Option<Room<D>>
+    fn new(alloc: Global, nodes: u16) -> Option<ClusterRoom<D>>
         requires { 1 ≤ nodes }
         ensures { IfSome result (IsRoomFor nodes) }
     {
@@ -122,8 +122,8 @@ impl<D: Area + Drop> Room<D> {
             return None;
         };
         let posts = post_all(alloc, ends)?;
-        let dropped = Lock::new(alloc, Dropped::none(), &()).ok()?;
-        Some(Room {
+        let dropped = TicketLock::new(alloc, Dropped::none(), &()).ok()?;
+        Some(ClusterRoom {
             posts,
             members,
             seats,
@@ -132,7 +132,7 @@ impl<D: Area + Drop> Room<D> {
     }
 
     // The cluster of these nodes, whose geometry this is. It takes no memory.
-    fn join(self, geometry: Geometry, nodes: Vec<Opened<D>>) -> (Cluster<D>, Vec<CommitSeat>)
+    fn join(self, geometry: Geometry, nodes: Vec<OpenedNode<D>>) -> (Cluster<D>, Vec<CommitSeat>)
         requires room { IsRoomFor (vec_len nodes) self }
         requires numbered { StandByNumber nodes.items }
         requires all_nodes { vec_len nodes ≡ geometry.nodes }
@@ -144,7 +144,7 @@ impl<D: Area + Drop> Room<D> {
         ensures each { (place : ℕ) (member : TheMember D) (seat : Seat) → slice_get result.0.members.items place ≡ Some member
             → slice_get result.1.items place ≡ Some seat → slice_get nodes.items place ≡ Some (record { node = member.node; seat = seat }) }
     {
-        let Room {
+        let ClusterRoom {
             mut posts,
             mut members,
             mut seats,
@@ -152,7 +152,7 @@ impl<D: Area + Drop> Room<D> {
         } = self;
         let mut nodes = nodes;
         for _ in 0..nodes.len() {
-            let Opened { node, seat } = nodes.remove(0);
+            let OpenedNode { node, seat } = nodes.remove(0);
             let Post { to, from } = posts.remove(0);
             members.push_reserved(Member { node, to, from });
             seats.push_reserved(seat);

@@ -11,7 +11,7 @@ use crate::log_state::LogState;
 use crate::{LogSide, NodeFault};
 use lc_disk::Area;
 use lc_record::{Geometry, Group};
-use lc_rest::{NodePart, Part};
+use lc_rest::{ClusterPart, NodePart};
 use lc_stage::{CommitSeat, FlushSeat, Stage};
 use std::alloc::{AllocError, Global};
 
@@ -53,15 +53,15 @@ impl<D: Area + Drop> LogSide<D> {
             known,
         } = self;
         let LogState::Idle(log) = log else {
-            return Err(Part::Log(node).into());
+            return Err(ClusterPart::Log(node).into());
         };
         let taken = stage.take(&mut flusher, &mut group);
         if stage.tail(&mut probe) > stable_tail + u64::from(taken) {
-            return Err(Part::Seat(node).into());
+            return Err(ClusterPart::Seat(node).into());
         }
         let end = log.end + taken as usize;
         if end > geometry.words as usize || log.area.len() != geometry.log_len() {
-            return Err(Part::Log(node).into());
+            return Err(ClusterPart::Log(node).into());
         }
         meet_all(stage, &mut flusher, seats);
         let staged = words_in(alloc, &group)?;

@@ -7,7 +7,7 @@ ghost use Rattle.lc_node.specs.LeftBy.{AreReceived, HaveOwnSeats, IsIdleSeatOf, 
 ghost use Rattle.lc_node.specs.Refusals.{StopsNode};
 ghost use Rattle.lc_node.specs.declared.node_fault.NodeFault.TheVariants.{NoMemory};
 
-use crate::leaving_segments::Images;
+use crate::leaving_segments::SegmentImages;
 use crate::{Node, NodeFault};
 use lc_disk::Area;
 use lc_record::Geometry;
@@ -84,7 +84,9 @@ impl<D: Area + Drop> Node<D> {
         let (side, loan) = log.lock(rt);
         log.end(loan);
         let mut part = side.into_part(alloc, &stage, geometry, number, seats)?;
-        let Images { images, applied } = Images::take(rt, alloc, number, segments, tokens)?;
+        let SegmentImages { images, applied } = SegmentImages::take(
+            rt, alloc, number, segments, tokens,
+        )?;
         part.images = images;
         part.applied = applied;
         Ok(part)

@@ -1,6 +1,6 @@
 //! What the segments of a node leave once its threads have ended.
 ghost use Rattle.std.specs.Prelude.{◌≡◌, ◌⊎◌, ◌++◌, All, IfErr, IfOk, IsSome, OnOk, Some, length};
-ghost use Rattle.lc_rest.specs.declared.part.Part.TheVariants.{Log};
+ghost use Rattle.lc_rest.specs.declared.cluster_part.ClusterPart.TheVariants.{Log};
 ghost use Rattle.lc_node.specs.LeftBy.{HasFailed, IsServingArea, IsSettledPart, StoodBehind, token_sent, tokens_at};
 ghost use Rattle.lc_node.specs.Refusals.{StopsSegment};
 ghost use Rattle.lc_node.specs.declared.node_fault.NodeFault.TheVariants.{Mismatch, NoMemory};
@@ -9,8 +9,8 @@ use crate::boxed_side::BoxedSide;
 use crate::page_area::PageArea;
 use crate::{NodeFault, SegSide, Travelling};
 use lc_disk::Area;
-use lc_lock::Lock;
-use lc_rest::{Holder, Part, SegmentPart};
+use lc_lock::TicketLock;
+use lc_rest::{ClusterPart, Holder, SegmentPart};
 use lc_tx::Image;
 use std::alloc::Global;
 use std::sync::Wait;
@@ -21,12 +21,12 @@ const MOST_TOKENS: usize = 2;
 /// The images of all segments of a node, from segment 1 on, and of each the number up to which its records are applied. This
 /// project's own.
 #[derive(Drop)]
-pub(crate) struct Images {
+pub(crate) struct SegmentImages {
     pub(crate) images: Vec<Image>,
     pub(crate) applied: Vec<u64>,
 }
 
-impl Images {
+impl SegmentImages {
     /// What the segments of the node with this number leave, which takes each of them out of its lock. Their tokens go
     /// after these.
     ///
@@ -37,9 +37,9 @@ impl Images {
         rt: &R,
         alloc: Global,
         node: u16,
-        segments: Vec<Lock<BoxedSide<D>, u32>>,
+        segments: Vec<TicketLock<BoxedSide<D>, u32>>,
         tokens: &mut Vec<SegmentPart<D>>,
-    ) -> Result<Images, NodeFault>
+    ) -> Result<SegmentImages, NodeFault>
         requires settled { All (IsSettledPart D.Area) tokens.old.items }
         ensures images { IfOk result (λ taken. length taken.images.items ≡ length segments.items) }
         ensures applied { IfOk result (λ taken. length taken.applied.items ≡ length segments.items) }
@@ -58,7 +58,7 @@ impl Images {
             images.push_reserved(image);
             applied.push_reserved(number);
         }
-        Ok(Images { images, applied })
+        Ok(SegmentImages { images, applied })
     }
 }
 
@@ -115,7 +115,7 @@ fn serving_area<D: Area + Drop>(pages: PageArea<D>, node: u16) -> Result<Option<
     match pages {
         PageArea::Elsewhere => Ok(None),
         PageArea::Serves(area) => Ok(Some(area)),
-        PageArea::Failed(_area) => Err(Part::Log(node).into()),
+        PageArea::Failed(_area) => Err(ClusterPart::Log(node).into()),
     }
 }
 

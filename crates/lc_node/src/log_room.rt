@@ -1,6 +1,6 @@
 //! The memory of a node's log, taken before its area is.
 ghost use Rattle.std.specs.Prelude.{◌≡◌, ◌≢◌, ◌+◌, ◌*◌, ◌%◌, ◌<◌, ◌≤◌, ℕ, true, false, [], Some, length, slice_get, slice_index, vec_capacity, vec_len, IfOk};
-ghost use Rattle.lc_lock.specs.declared.lock.Lock.{Lock as Keeps};
+ghost use Rattle.lc_lock.specs.declared.ticket_lock.TicketLock.{TicketLock as Keeps};
 ghost use Rattle.lc_lock.specs.Loans.{key_of};
 ghost use Rattle.lc_stage.specs.Staging.{newcomer, flusher as first_flusher};
 ghost use Rattle.lc_stage.specs.Seats.{commit_view, flush_view, IsFlusherOf, IsSeatOf};
@@ -13,7 +13,7 @@ use crate::vacant::Vacant;
 use crate::{LogSide, Node};
 use lc_disk::Area;
 use lc_ended::Ended;
-use lc_lock::Lock;
+use lc_lock::TicketLock;
 use lc_log::NodeLog;
 use lc_record::{Geometry, Group};
 use lc_stage::{CommitSeat, FlushSeat, Stage};
@@ -22,7 +22,7 @@ use std::alloc::{AllocError, Global};
 use std::sync::atomic::AtomicIn;
 
 /// A node's stage with the first committer's seat, and its log before the area is there. It is never dropped: it ends in
-/// `open` or in `end`.
+/// `open` or in `discard`.
 pub(crate) struct LogRoom<D: Area + Drop> {
     pub(crate) stage: Stage,
     pub(crate) seat: CommitSeat,
@@ -31,7 +31,7 @@ pub(crate) struct LogRoom<D: Area + Drop> {
     group: Group,
     stable: Vec<u64>,
     ended: Ended,
-    room_turns: Lock<RoomTurn, ()>,
+    room_turns: TicketLock<RoomTurn, ()>,
     lock: Vacant<LogSide<D>, Stage>,
     ghost own_seat: { IsSeatOf stage seat },
     ghost own_probe: { IsSeatOf stage probe },
@@ -57,7 +57,7 @@ impl<D: Area + Drop> LogRoom<D> {
         let group = Group::new(alloc, words)?;
         let stable = Vec::with_capacity(alloc, words as usize)?;
         let ended = Ended::new(alloc);
-        let Ok(room_turns) = Lock::new(alloc, RoomTurn, &()) else {
+        let Ok(room_turns) = TicketLock::new(alloc, RoomTurn, &()) else {
             return Err(AllocError);
         };
         let lock = Vacant::new(alloc, &stage)?;
@@ -81,7 +81,7 @@ impl<D: Area + Drop> LogRoom<D> {
         geometry: Geometry,
         number: u16,
         area: D,
-        segments: Vec<Lock<BoxedSide<D>, u32>>,
+        segments: Vec<TicketLock<BoxedSide<D>, u32>>,
     ) -> (Node<D>, CommitSeat)
         requires number { number ≤ 7 }
         requires room { 8 * self.stage.room + 8 ≤ length (D.now area) }
@@ -134,7 +134,7 @@ impl<D: Area + Drop> LogRoom<D> {
     }
 
     /// The log does not come up.
-    pub(crate) fn end(self) {
+    pub(crate) fn discard(self) {
         let LogRoom {
             stage: _stage,
             seat: _seat,
@@ -146,6 +146,6 @@ impl<D: Area + Drop> LogRoom<D> {
             room_turns: _room_turns,
             lock,
         } = self;
-        lock.end();
+        lock.discard();
     }
 }

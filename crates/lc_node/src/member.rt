@@ -1,13 +1,13 @@
 //! A node of a cluster.
-use crate::wiring::Ends;
+use crate::wiring::NodeEnds;
 use crate::{Node, RecvEnds, SendEnds, Travelling};
 use lc_disk::Area;
-use lc_lock::Lock;
+use lc_lock::TicketLock;
 
 /// A node of a cluster, and its ends of the lines to and from its peers, each behind a lock of its own. The locks know the lines.
 #[derive(Drop)]
 pub(crate) struct Member<D: Area + Drop> {
     pub(crate) node: Node<D>,
-    pub(crate) to: Lock<SendEnds<Travelling<D>>, Ends<Travelling<D>>>,
-    pub(crate) from: Lock<RecvEnds<Travelling<D>>, Ends<Travelling<D>>>,
+    pub(crate) to: TicketLock<SendEnds<Travelling<D>>, NodeEnds<Travelling<D>>>,
+    pub(crate) from: TicketLock<RecvEnds<Travelling<D>>, NodeEnds<Travelling<D>>>,
 }

@@ -1,6 +1,6 @@
 //! A running node.
 ghost use Rattle.std.specs.Prelude.{◌≡◌, ◌+◌, ◌≤◌, ℕ, true, Some, slice_get, vec_len};
-ghost use Rattle.lc_lock.specs.declared.lock.Lock.{Lock as Keeps};
+ghost use Rattle.lc_lock.specs.declared.ticket_lock.TicketLock.{TicketLock as Keeps};
 ghost use Rattle.lc_lock.specs.Loans.{key_of};
 ghost use Rattle.lc_node.specs.SegView.{SegView};
 
@@ -9,7 +9,7 @@ use crate::boxed_side::BoxedSide;
 use crate::halting::Halting;
 use crate::room_turn::RoomTurn;
 use lc_disk::Area;
-use lc_lock::Lock;
+use lc_lock::TicketLock;
 use lc_record::Geometry;
 use lc_stage::Stage;
 use std::sync::atomic::AtomicIn;
@@ -22,9 +22,9 @@ pub struct Node<D: Area + Drop> {
     pub(crate) geometry: Geometry,
     pub(crate) number: u16,
     pub(crate) stage: Stage,
-    pub(crate) log: Lock<LogSide<D>, Stage>,
-    pub(crate) segments: Vec<Lock<BoxedSide<D>, u32>>,
-    pub(crate) room_turns: Lock<RoomTurn, ()>,
+    pub(crate) log: TicketLock<LogSide<D>, Stage>,
+    pub(crate) segments: Vec<TicketLock<BoxedSide<D>, u32>>,
+    pub(crate) room_turns: TicketLock<RoomTurn, ()>,
     /// Not 0 once a call of a device has failed.
     pub(crate) halted: AtomicIn<Halting<D>>,
     pub(crate) is_alone: bool,

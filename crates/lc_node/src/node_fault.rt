@@ -3,7 +3,7 @@ ghost use Rattle.std.specs.Prelude.{◌≡◌};
 ghost use Rattle.lc_node.specs.Fault.{of_adoption, of_tx};
 ghost use Rattle.lc_node.specs.declared.node_fault.NodeFault.TheVariants.{Mismatch, NoMemory};
 
-use lc_rest::{AdoptFault, Part};
+use lc_rest::{AdoptFault, ClusterPart};
 use lc_token::TokenFault;
 use lc_tx::TxFault;
 use std::alloc::AllocError;
@@ -59,7 +59,7 @@ pub enum NodeFault {
     Halted,
     /// What the threads left does not fit: this part of it.
     #[error("{part} does not agree with the rest of the cluster")]
-    Mismatch { part: Part },
+    Mismatch { part: ClusterPart },
     /// The token does not leave or arrive.
     #[error("{fault}")]
     Token { fault: TokenFault },
@@ -130,10 +130,10 @@ impl From<TxFault> for NodeFault {
     }
 }
 
-impl From<Part> for NodeFault {
+impl From<ClusterPart> for NodeFault {
     ghost from_gives = { λ part own. own ≡ Mismatch part };
 
-    fn from(part: Part) -> NodeFault {
+    fn from(part: ClusterPart) -> NodeFault {
         NodeFault::Mismatch { part }
     }
 }

@@ -5,7 +5,7 @@ ghost use Rattle.lc_recover.specs.Reads.{HaveLengths};
 ghost use Rattle.lc_recover.specs.Recovered.{AreFinished};
 ghost use Rattle.lc_stage.specs.Staging.{newcomer};
 ghost use Rattle.lc_stage.specs.Seats.{commit_view, IsSeatOf};
-ghost use Rattle.lc_node.specs.Opened.{IsOpened, StandByNumber};
+ghost use Rattle.lc_node.specs.OpenedNode.{IsOpened, StandByNumber};
 ghost use Rattle.lc_node.specs.declared.node_fault.NodeFault.TheVariants.{NoMemory};
 
 use crate::store_room::StoreRoom;
@@ -18,7 +18,7 @@ use std::alloc::Global;
 
 /// A node of a recovered store, and its first committer's seat. This project's own.
 #[derive(Drop)]
-pub(crate) struct Opened<D: Area + Drop> {
+pub(crate) struct OpenedNode<D: Area + Drop> {
     pub(crate) node: Node<D>,
     pub(crate) seat: CommitSeat,
 }
@@ -47,7 +47,7 @@ impl<D: Area + Drop> Node<D> {
         ensures back { IfErr result (λ back. (back.0 ≡ recovered) × (back.1 ≡ NoMemory)) }
     {
         let mut nodes = open_first(alloc, recovered, 1)?;
-        let Opened { mut node, seat } = nodes.remove(0);
+        let OpenedNode { mut node, seat } = nodes.remove(0);
         node.geometry = with_one_node(node.geometry);
         node.is_alone = true;
         Ok((node, seat))
@@ -78,7 +78,7 @@ fn with_one_node(geometry: Geometry) -> Geometry
 pub(crate) fn open_nodes<D: Area + Drop>(
     alloc: Global,
     recovered: Recovered<D>,
-) -> Result<Vec<Opened<D>>, (Recovered<D>, NodeFault)>
+) -> Result<Vec<OpenedNode<D>>, (Recovered<D>, NodeFault)>
     requires lengths { HaveLengths D.Area recovered.geometry recovered.areas }
     requires finished { AreFinished D.Area recovered }
     ensures count { IfOk result (λ nodes. length nodes.items ≡ recovered.geometry.nodes) }
@@ -95,7 +95,7 @@ fn open_first<D: Area + Drop>(
     alloc: Global,
     recovered: Recovered<D>,
     nodes: u16,
-) -> Result<Vec<Opened<D>>, (Recovered<D>, NodeFault)>
+) -> Result<Vec<OpenedNode<D>>, (Recovered<D>, NodeFault)>
     requires some { 0 < nodes }
     requires within { nodes ≤ recovered.geometry.nodes }
     requires few { nodes ≤ 8 }

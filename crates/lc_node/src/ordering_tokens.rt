@@ -1,7 +1,7 @@
 //! The tokens of a cluster in the order of their segments.
 ghost use Rattle.std.specs.Prelude.{◌≡◌, ◌==◌, ◌+◌, ℕ, All, IfErr, IfOk, OnOk, Some, length, position, slice_get};
 ghost use Rattle.lc_rest.specs.Parts.{KeepsPages};
-ghost use Rattle.lc_rest.specs.declared.part.Part.TheVariants.{Token};
+ghost use Rattle.lc_rest.specs.declared.cluster_part.ClusterPart.TheVariants.{Token};
 ghost use Rattle.lc_rest.specs.declared.segment_part.SegmentPart.{SegmentPart as ThePart};
 ghost use Rattle.lc_node.specs.LeftBy.{IsSettledPart};
 ghost use Rattle.lc_node.specs.Refusals.{HasToken, StopsTokens, TakesOut, first_of};
@@ -11,7 +11,7 @@ use crate::NodeFault;
 use lc_disk::Area;
 use lc_page::SLOT_BYTES;
 use lc_record::Geometry;
-use lc_rest::{Part, SegmentPart};
+use lc_rest::{ClusterPart, SegmentPart};
 use std::alloc::Global;
 
 /// These tokens in the order of their segments, from segment 1 on: there is just one of each.
@@ -40,7 +40,7 @@ pub(crate) fn in_order<D: Area + Drop>(
     }
     match tokens.first() {
         None => Ok(parts),
-        Some(part) => Err(Part::Token(part.token.segment()).into()),
+        Some(part) => Err(ClusterPart::Token(part.token.segment()).into()),
     }
 }
 
@@ -61,12 +61,12 @@ fn take_token<D: Area + Drop>(
     ensures refused { IfErr result (λ fault. (fault ≡ Mismatch (Token segment)) × (HasToken D.Area geometry.now tokens.old.items segment → ⊥)) }
 {
     let Some(place) = place_of(tokens.as_slice(), segment) else {
-        return Err(Part::Token(segment).into());
+        return Err(ClusterPart::Token(segment).into());
     };
     let part = tokens.remove(place);
     let pages = geometry.pages as usize;
     if part.token.pages().len() != pages || part.area.len() != 2 * SLOT_BYTES * pages {
-        return Err(Part::Token(segment).into());
+        return Err(ClusterPart::Token(segment).into());
     }
     Ok(part)
 }

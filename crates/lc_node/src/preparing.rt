@@ -5,7 +5,7 @@ ghost use Rattle.lc_stage.specs.Seats.{commit_view, IsSeatOf, IsIdle};
 ghost use Rattle.lc_tx.specs.Images.{bytes_of};
 ghost use Rattle.lc_tx.specs.Prepared.{AreSmall};
 ghost use Rattle.lc_tx.specs.Tx.{IsIdle as HoldsNothing};
-ghost use Rattle.lc_node.specs.Lent.{the_images};
+ghost use Rattle.lc_node.specs.HeldImages.{the_images};
 ghost use Rattle.lc_node.specs.Attempts.{IsUnbegun, IsUndone};
 ghost use Rattle.lc_node.specs.Commits.{IsUnstaged, StagesWork};
 ghost use Rattle.lc_node.specs.Each.{Each, EachThree};
@@ -16,7 +16,7 @@ ghost use Rattle.lc_node.specs.declared.held.HeldSide.{HeldSide as HeldSides};
 
 use crate::attempting::attempt;
 use crate::held::HeldSide;
-use crate::lent::Lent;
+use crate::lent::HeldImages;
 use crate::staging::stage_record;
 use crate::taking_out::{count_runs, make_room_in};
 use crate::{Gate, NodeFault, Work};
@@ -47,7 +47,7 @@ pub(crate) fn segments_in<D: Area + Drop>(
 pub(crate) fn stage_work<D: Area + Drop, W: Work, G: Gate>(
     alloc: Global,
     sides: &mut [HeldSide<D>],
-    lent: &mut Lent,
+    lent: &mut HeldImages,
     tx: &mut Tx,
     words: &mut Vec<u64>,
     segments: &[u32],

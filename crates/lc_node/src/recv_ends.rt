@@ -3,7 +3,7 @@ ghost use Rattle.std.specs.Prelude.{◌≡◌};
 ghost use Rattle.lc_node.specs.Receiving.{SameOrigins};
 
 use crate::PeerInbox;
-use crate::wiring::Ends;
+use crate::wiring::NodeEnds;
 use lc_lock::Keyed;
 
 /// The receiving end from each peer of a node, whose number it knows. It stands behind a lock of its own. This project's own.
@@ -14,7 +14,7 @@ pub struct RecvEnds<P: Drop> {
 }
 
 // Each of the line that it had when the nodes were wired.
-impl<P: Drop> Keyed<Ends<P>> for RecvEnds<P> {
+impl<P: Drop> Keyed<NodeEnds<P>> for RecvEnds<P> {
     ghost fits = { λ wired ends. SameOrigins wired.from.ends.items ends.ends.items };
 }
 

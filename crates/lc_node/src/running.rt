@@ -1,6 +1,6 @@
 //! The calls of a running node.
 ghost use Rattle.std.specs.Prelude.{◌≡◌, ◌≢◌, ◌<◌, ℕ, IfErr, IfOk};
-ghost use Rattle.lc_stage.specs.declared.view.Reservation.{Reservation as Run};
+ghost use Rattle.lc_stage.specs.declared.stage_view.Reservation.{Reservation as Run};
 ghost use Rattle.lc_stage.specs.Staging.{newcomer, joining, Owns};
 ghost use Rattle.lc_stage.specs.Receipts.{IsReceiptOf};
 ghost use Rattle.lc_stage.specs.Seats.{commit_view, IsSeatOf, IsFlusherOf, IsIdle};
@@ -13,7 +13,7 @@ ghost use Rattle.lc_node.specs.declared.confirming.Confirmed.TheVariants.{Here, 
 
 use crate::{Confirmed, LogSide, Node, NodeFault};
 use lc_disk::Area;
-use lc_lock::{Keyed, Lock};
+use lc_lock::{Keyed, TicketLock};
 use lc_stage::{CommitSeat, Receipt, Stage};
 use std::sync::Wait;
 
@@ -23,7 +23,7 @@ impl<D: Area + Drop> Keyed<Stage> for LogSide<D> {
 
 impl<D: Area + Drop> Node<D> {
     /// The lock of the node's log.
-    pub fn log_lock(&self) -> &Lock<LogSide<D>, Stage>
+    pub fn log_lock(&self) -> &TicketLock<LogSide<D>, Stage>
         ensures { (key_of result.now).table.shared.table_id ≡ self.now.stage.table.shared.table_id }
     {
         &self.log

@@ -1,6 +1,6 @@
 //! The memory of the segments of a recovered store, taken before its areas are.
 ghost use Rattle.std.specs.Prelude.{◌≡◌, ◌+◌, ◌≤◌, ℕ, [], Some, length, slice_get, vec_capacity, vec_len, IfOk, IfSome};
-ghost use Rattle.lc_lock.specs.declared.lock.Lock.{Lock as Keeps};
+ghost use Rattle.lc_lock.specs.declared.ticket_lock.TicketLock.{TicketLock as Keeps};
 ghost use Rattle.lc_lock.specs.Loans.{key_of};
 ghost use Rattle.lc_node.specs.Rooms.{AreOfSegments, FitsRoom, FitRooms, IsOfSegment, IsRoomOf};
 ghost use Rattle.lc_node.specs.SegView.{SegView};
@@ -12,11 +12,11 @@ use crate::fresh::FreshSegment;
 use crate::share::Share;
 use crate::vacant::Vacant;
 use lc_disk::Area;
-use lc_lock::Lock;
+use lc_lock::TicketLock;
 use lc_recover::Recovered;
 use std::alloc::{AllocError, Global};
 
-/// A segment of a recovered store, and the lock that waits for it. It is never dropped: it ends in `fill_all` or in `end`.
+/// A segment of a recovered store, and the lock that waits for it. It is never dropped: it ends in `fill_all` or in `discard`.
 pub(crate) struct SegRoom<D: Area + Drop> {
     pub(crate) fresh: FreshSegment<D>,
     pub(crate) lock: Vacant<BoxedSide<D>, u32>,
@@ -36,7 +36,7 @@ impl<D: Area + Drop> SegRoom<D> {
 
     // The lock with the segment: on the area of its pages, or without one where another node has the token. It takes no
     // memory.
-    fn come_up(self, segment: u32, area: Option<D>) -> Lock<BoxedSide<D>, u32>
+    fn come_up(self, segment: u32, area: Option<D>) -> TicketLock<BoxedSide<D>, u32>
         requires room { IsOfSegment segment self }
         requires fits { IfSome area (FitsRoom D.Area segment self) }
         ensures { key_of result ≡ segment }
@@ -48,7 +48,7 @@ impl<D: Area + Drop> SegRoom<D> {
     }
 
     // The lock with the segment, on the area of its pages.
-    fn fill(self, segment: u32, area: D) -> Lock<BoxedSide<D>, u32>
+    fn fill(self, segment: u32, area: D) -> TicketLock<BoxedSide<D>, u32>
         requires fits { FitsRoom D.Area segment self area }
         ensures { key_of result ≡ segment }
     {
@@ -57,7 +57,7 @@ impl<D: Area + Drop> SegRoom<D> {
     }
 
     // The lock with the segment, whose token is at another node.
-    fn fill_elsewhere(self, segment: u32) -> Lock<BoxedSide<D>, u32>
+    fn fill_elsewhere(self, segment: u32) -> TicketLock<BoxedSide<D>, u32>
         requires room { IsOfSegment segment self }
         ensures { key_of result ≡ segment }
     {
@@ -66,12 +66,12 @@ impl<D: Area + Drop> SegRoom<D> {
     }
 
     // The segment does not come up.
-    fn end(self) {
+    fn discard(self) {
         let SegRoom {
             fresh: _fresh,
             lock,
         } = self;
-        lock.end();
+        lock.discard();
     }
 }
 
@@ -89,7 +89,7 @@ pub(crate) fn rooms_of<D: Area + Drop>(
         match SegRoom::new(alloc, place + 1, recovered) {
             Ok(room) => rooms.push_reserved(room),
             Err(fault) => {
-                end_all(rooms);
+                discard_all(rooms);
                 return Err(fault);
             }
         }
@@ -103,8 +103,8 @@ pub(crate) fn fill_all<D: Area + Drop>(
     share: Share,
     rooms: Vec<SegRoom<D>>,
     pages: &mut [Option<D>],
-    locks: Vec<Lock<BoxedSide<D>, u32>>,
-) -> Vec<Lock<BoxedSide<D>, u32>>
+    locks: Vec<TicketLock<BoxedSide<D>, u32>>,
+) -> Vec<TicketLock<BoxedSide<D>, u32>>
     requires count { vec_len rooms ≡ length pages.old }
     requires few { vec_len rooms ≤ 16 }
     requires rooms { AreOfSegments rooms.items }
@@ -128,10 +128,10 @@ pub(crate) fn fill_all<D: Area + Drop>(
 }
 
 /// No segment comes up.
-pub(crate) fn end_all<D: Area + Drop>(rooms: Vec<SegRoom<D>>) {
+pub(crate) fn discard_all<D: Area + Drop>(rooms: Vec<SegRoom<D>>) {
     let mut rooms = rooms;
     while let Some(room) = rooms.pop() {
-        room.end();
+        room.discard();
     }
     rooms.destroy_empty();
 }

@@ -3,7 +3,7 @@ ghost use Rattle.std.specs.Prelude.{◌≡◌};
 ghost use Rattle.lc_node.specs.Spread.{SameLines};
 
 use crate::PeerEnd;
-use crate::wiring::Ends;
+use crate::wiring::NodeEnds;
 use lc_lock::Keyed;
 
 /// The sending end to each peer of a node. It stands behind a lock of its own, beside the log's. This project's own.
@@ -13,7 +13,7 @@ pub struct SendEnds<P: Drop> {
 }
 
 // Each on the line that it had when the nodes were wired.
-impl<P: Drop> Keyed<Ends<P>> for SendEnds<P> {
+impl<P: Drop> Keyed<NodeEnds<P>> for SendEnds<P> {
     ghost fits = { λ wired ends. SameLines wired.to.ends.items ends.ends.items };
 }
 

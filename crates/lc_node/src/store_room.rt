@@ -3,11 +3,11 @@ ghost use Rattle.std.specs.Prelude.{◌≡◌, ◌≤◌, ◌<◌, ℕ, [], Some
 ghost use Rattle.lc_recover.specs.Reads.{HaveLengths};
 ghost use Rattle.lc_recover.specs.Recovered.{AreFinished};
 ghost use Rattle.lc_node.specs.Rooms.{AreRoomsFor, IsStoreRoom};
-ghost use Rattle.lc_node.specs.Opened.{IsOpened, StandByNumber};
+ghost use Rattle.lc_node.specs.OpenedNode.{IsOpened, StandByNumber};
 
 use crate::areas::{Areas, end_places};
-use crate::opening::Opened;
-use crate::room::Room;
+use crate::node_room::NodeRoom;
+use crate::opening::OpenedNode;
 use crate::share::Share;
 use lc_disk::Area;
 use lc_recover::Recovered;
@@ -15,9 +15,9 @@ use std::alloc::{AllocError, Global};
 
 /// The memory of some nodes of a store, with the places for the areas of its segments. It is never dropped: it ends in `open`.
 pub(crate) struct StoreRoom<D: Area + Drop> {
-    pub(crate) nodes: Vec<Room<D>>,
+    pub(crate) nodes: Vec<NodeRoom<D>>,
     pub(crate) places: Vec<Option<D>>,
-    pub(crate) opened: Vec<Opened<D>>,
+    pub(crate) opened: Vec<OpenedNode<D>>,
 }
 
 impl<D: Area + Drop> StoreRoom<D> {
@@ -41,7 +41,7 @@ impl<D: Area + Drop> StoreRoom<D> {
 
     /// The nodes come up, from node 0 on, each on the area of its log. They share the tokens, and with them the areas of the
     /// segments, so that none is left. The areas of other nodes' logs are dropped. It takes no memory.
-    pub(crate) fn open(self, recovered: Recovered<D>) -> Vec<Opened<D>>
+    pub(crate) fn open(self, recovered: Recovered<D>) -> Vec<OpenedNode<D>>
         requires room { IsStoreRoom recovered (vec_len self.nodes) self }
         requires some { 0 < vec_len self.nodes }
         requires within { vec_len self.nodes ≤ recovered.geometry.nodes }
@@ -80,16 +80,16 @@ fn rooms_for<D: Area + Drop>(
     alloc: Global,
     recovered: &Recovered<D>,
     nodes: u16,
-) -> Result<Vec<Room<D>>, AllocError>
+) -> Result<Vec<NodeRoom<D>>, AllocError>
     ensures count { IfOk result (λ rooms. vec_len rooms ≡ nodes) }
     ensures each { IfOk result (λ rooms. AreRoomsFor recovered.now rooms.items) }
 {
     let mut rooms = Vec::with_capacity(alloc, nodes as usize)?;
     for _ in 0..nodes {
-        match Room::new(alloc, recovered) {
+        match NodeRoom::new(alloc, recovered) {
             Ok(room) => rooms.push_reserved(room),
             Err(fault) => {
-                end_rooms(rooms);
+                discard_rooms(rooms);
                 return Err(fault);
             }
         }
@@ -98,10 +98,10 @@ fn rooms_for<D: Area + Drop>(
 }
 
 // No node comes up.
-fn end_rooms<D: Area + Drop>(rooms: Vec<Room<D>>) {
+fn discard_rooms<D: Area + Drop>(rooms: Vec<NodeRoom<D>>) {
     let mut rooms = rooms;
     while let Some(room) = rooms.pop() {
-        room.end();
+        room.discard();
     }
     rooms.destroy_empty();
 }

@@ -1,7 +1,7 @@
 //! A whole transaction on a running node.
 ghost use Rattle.std.specs.Prelude.{◌≡◌, ◌⊎◌, ◌<◌, ℕ, List, [], All, length, Ok, IfErr, OnOk};
 ghost use Rattle.lc_stage.specs.declared.receipt.Receipt.{Receipt as Given};
-ghost use Rattle.lc_stage.specs.declared.view.View.{View};
+ghost use Rattle.lc_stage.specs.declared.stage_view.StageView.{StageView};
 ghost use Rattle.lc_stage.specs.Seats.{commit_view, IsSeatOf, IsIdle};
 ghost use Rattle.lc_node.specs.Receipts.{HasReceipt, IsOfDevice, Learns, Receives};
 ghost use Rattle.lc_node.specs.Stages.{Sees};
@@ -51,7 +51,7 @@ impl<D: Area + Drop> Node<D> {
             × ((same : Bytes) × Ran (W.ran work.old work.new) segments.now same (Ok tt) same []) }
         ensures lazy { result.1 ≡ Ok Lazy → ClosesWork self.now.number (W.ran work.old work.new) segments.now (commit_view seat) (commit_view result.0) }
         ensures flushed { (receipt : Given) → result.1 ≡ Ok (Flushed receipt)
-            → (w : View) × ClosesWork self.now.number (W.ran work.old work.new) segments.now (commit_view seat) w × Receives w receipt (commit_view result.0) }
+            → (w : StageView) × ClosesWork self.now.number (W.ran work.old work.new) segments.now (commit_view seat) w × Receives w receipt (commit_view result.0) }
         ensures received { (receipt : Given) → result.1 ≡ Ok (Flushed receipt) → HasReceipt (commit_view result.0) receipt }
         ensures unasked { result.1 ≡ Ok Lazy → mode ≡ Mode.Lazy }
         ensures asked { (receipt : Given) → result.1 ≡ Ok (Flushed receipt) → mode ≡ Mode.Flush }
@@ -59,7 +59,7 @@ impl<D: Area + Drop> Node<D> {
             × (((s : ℕ) × (fault ≡ NotHere s) × IsFirstOutside self.now segments.now s)
             ⊎ (((fault ≡ NoMemory) × (0 < length self.now.segments.items))
             ⊎ (IsHalted D fault ⊎ ((old : Bytes) × IsUncommitted (W.ran work.old work.new) (IsUnbegunAmong segments.now) segments.now old self.now.stage.room tries (commit_view result.0).seen fault)))))
-            ⊎ (IsOfDevice fault × ((w : View) × ClosesWork self.now.number (W.ran work.old work.new) segments.now (commit_view seat) w × Learns w (commit_view result.0)))) }
+            ⊎ (IsOfDevice fault × ((w : StageView) × ClosesWork self.now.number (W.ran work.old work.new) segments.now (commit_view seat) w × Learns w (commit_view result.0)))) }
     {
         let mut seat = seat;
         let committed = self.commit(rt, alloc, &mut seat, segments, work, tries, gate);

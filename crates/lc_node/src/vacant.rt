@@ -2,13 +2,13 @@
 ghost use Rattle.std.specs.Prelude.{◌≡◌, IfOk};
 ghost use Rattle.lc_lock.specs.Loans.{key_of, IsLoanOf};
 
-use lc_lock::{Keyed, Loan, Lock};
+use lc_lock::{Keyed, Loan, TicketLock};
 use std::alloc::{AllocError, Global};
 
 /// A lock without its value, which takes no memory when the value comes. It is never dropped: it ends in `fill` or in
-/// `end`.
+/// `discard`.
 pub(crate) struct Vacant<T: Keyed<K>, K> {
-    pub(crate) lock: Lock<T, K>,
+    pub(crate) lock: TicketLock<T, K>,
     loan: Loan<T, K>,
     ghost one_lock: { IsLoanOf lock loan },
 }
@@ -18,12 +18,12 @@ impl<T: Keyed<K> + Drop, K> Vacant<T, K> {
     pub(crate) fn new(alloc: Global, key: &K) -> Result<Vacant<T, K>, AllocError>
         ensures { IfOk result (λ made. key_of made.lock ≡ key.now) }
     {
-        let (lock, loan) = Lock::vacant(alloc, key)?;
+        let (lock, loan) = TicketLock::vacant(alloc, key)?;
         Ok(Vacant { lock, loan })
     }
 
     /// The lock with its value.
-    pub(crate) fn fill(self, value: T) -> Lock<T, K>
+    pub(crate) fn fill(self, value: T) -> TicketLock<T, K>
         requires { T.fits (key_of self.lock) value }
         ensures { key_of result ≡ key_of self.lock }
     {
@@ -33,7 +33,7 @@ impl<T: Keyed<K> + Drop, K> Vacant<T, K> {
     }
 
     /// The value never comes.
-    pub(crate) fn end(self) {
+    pub(crate) fn discard(self) {
         let Vacant { lock, loan } = self;
         lock.end(loan);
     }

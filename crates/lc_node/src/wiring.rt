@@ -8,13 +8,13 @@ use std::alloc::{AllocError, Global};
 
 /// A node's ends of the lines to and from its peers. This project's own.
 #[derive(Drop)]
-pub(crate) struct Ends<P: Drop> {
+pub(crate) struct NodeEnds<P: Drop> {
     pub(crate) to: SendEnds<P>,
     pub(crate) from: RecvEnds<P>,
 }
 
 /// The ends of each node of a cluster of so many, with a line from each to each other. It fails for want of memory alone.
-pub(crate) fn wire<P: Drop>(alloc: Global, nodes: u16) -> Result<Vec<Ends<P>>, AllocError>
+pub(crate) fn wire<P: Drop>(alloc: Global, nodes: u16) -> Result<Vec<NodeEnds<P>>, AllocError>
     requires { 1 ≤ nodes }
     ensures count { IfOk result (λ ends. length ends.items ≡ nodes) }
     ensures numbered { IfOk result (λ ends. AreNumbered ends.items) }
@@ -30,7 +30,7 @@ pub(crate) fn wire<P: Drop>(alloc: Global, nodes: u16) -> Result<Vec<Ends<P>>, A
 }
 
 // The nodes of a cluster of so many, without a line, each with room for its ends.
-fn unwired<P: Drop>(alloc: Global, nodes: u16) -> Result<Vec<Ends<P>>, AllocError>
+fn unwired<P: Drop>(alloc: Global, nodes: u16) -> Result<Vec<NodeEnds<P>>, AllocError>
     requires { 1 ≤ nodes }
     ensures { IfOk result (λ all. AreWired nodes 0 0 all.items) }
 {
@@ -39,13 +39,17 @@ fn unwired<P: Drop>(alloc: Global, nodes: u16) -> Result<Vec<Ends<P>>, AllocErro
     for node in 0..nodes {
         let to = SendEnds::new(Vec::with_capacity(alloc, peers)?);
         let from = RecvEnds::new(node, Vec::with_capacity(alloc, peers)?);
-        all.push_reserved(Ends { to, from });
+        all.push_reserved(NodeEnds { to, from });
     }
     Ok(all)
 }
 
 // Lines from a node to each other.
-fn wire_from<P: Drop>(alloc: Global, all: &mut Vec<Ends<P>>, from: usize) -> Result<(), AllocError>
+fn wire_from<P: Drop>(
+    alloc: Global,
+    all: &mut Vec<NodeEnds<P>>,
+    from: usize,
+) -> Result<(), AllocError>
     requires { from < length all.old.items }
     ensures { (nodes : ℕ) → AreWired nodes from 0 all.old.items → OnOk result (AreWired nodes (from + 1) 0 all.new.items) }
 {
@@ -60,7 +64,7 @@ fn wire_from<P: Drop>(alloc: Global, all: &mut Vec<Ends<P>>, from: usize) -> Res
 // A line from a node to another, whose ends go after those that they have.
 fn connect<P: Drop>(
     alloc: Global,
-    all: &mut Vec<Ends<P>>,
+    all: &mut Vec<NodeEnds<P>>,
     from: usize,
     to: usize,
 ) -> Result<(), AllocError>

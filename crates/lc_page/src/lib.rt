@@ -2,10 +2,10 @@
 #![tactic(auto)]
 
 mod draft;
-mod entry;
 mod fault;
 mod laws;
 mod limits;
+mod page_entry;
 mod page_text;
 mod page_vector;
 mod page_write;
@@ -14,7 +14,6 @@ mod slot;
 mod writing;
 
 pub use draft::Draft;
-pub use entry::Entry;
 pub use fault::PageFault;
 pub use laws::{
     keeps_settled, other_page_keeps, others_keep, page_under_way, same_images_beside,
@@ -22,9 +21,10 @@ pub use laws::{
     sync_keeps,
 };
 pub use limits::{GREATEST_SEQUENCE, PAGE_BYTES, SLOT_BYTES, has_page, is_sequence};
+pub use page_entry::PageEntry;
 pub use page_text::PageText;
 pub use page_vector::PageVector;
-pub use page_write::{Begun, Closed, Closing, Filled, Filling, Opening, PageWrite};
+pub use page_write::{Begun, Closed, ClosingGate, Filled, Filling, OpeningGate, PageWrite};
 pub use reading::{page_bytes, read_page};
 pub use slot::Slot;
 pub use writing::Writing;

@@ -1,7 +1,7 @@
 //! What a node keeps of the pages of a segment.
 ghost use Rattle.std.specs.Prelude.{◌≡◌, ◌-◌, ◌<◌, ◌^◌, ◌↔◌, IsTrue, IfOk, OnErr, length, map, slice_set};
 
-use crate::{Entry, PageText, Slot};
+use crate::{PageEntry, PageText, Slot};
 use std::alloc::{AllocError, Global};
 use std::marker::Model;
 
@@ -9,14 +9,14 @@ use std::marker::Model;
 /// entries. That a page is dirty where it was touched above what is stable is this project's own.
 #[derive(Drop)]
 pub struct PageVector {
-    entries: Vec<Entry>,
+    entries: Vec<PageEntry>,
 }
 
 impl Model for PageVector {
     ghost use Rattle.std.specs.Prelude.{List};
-    ghost use Rattle.lc_page.specs.declared.entry.Entry.{Entry};
+    ghost use Rattle.lc_page.specs.declared.page_entry.PageEntry.{PageEntry};
 
-    ghost Value = { List Entry };
+    ghost Value = { List PageEntry };
 
     ghost view = { λ v. v.entries.items };
 }
@@ -31,7 +31,7 @@ impl PageVector {
     {
         let mut entries = Vec::with_capacity(alloc, texts.len())?;
         for text in texts {
-            entries.push(Entry::new(*text))?;
+            entries.push(PageEntry::new(*text))?;
         }
         Ok(PageVector { entries })
     }
@@ -51,7 +51,7 @@ impl PageVector {
     }
 
     /// The entry of a page.
-    pub fn entry(&self, page: u32) -> Entry
+    pub fn entry(&self, page: u32) -> PageEntry
         requires { page < length self.now }
         ensures { result ≡ entry_at self.now page }
     {
@@ -158,11 +158,11 @@ impl PageVector {
         requires { page < length self.old }
         ensures { self.new ≡ slice_set self.old page (new_entry text) }
     {
-        self.put(page, Entry::new(text));
+        self.put(page, PageEntry::new(text));
     }
 
     // Puts an entry in the place of one.
-    fn put(&mut self, page: u32, entry: Entry)
+    fn put(&mut self, page: u32, entry: PageEntry)
         requires { page < length self.old }
         ensures { self.new ≡ slice_set self.old page entry }
     {

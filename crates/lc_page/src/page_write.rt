@@ -29,7 +29,7 @@ pub struct Begun {
 
 /// The gate of the free slot is closed.
 #[derive(Clone, Copy)]
-pub struct Closing;
+pub struct ClosingGate;
 
 /// The gate of the free slot stays closed.
 #[derive(Clone, Copy)]
@@ -45,7 +45,7 @@ pub struct Filled;
 
 /// The gate is open.
 #[derive(Clone, Copy)]
-pub struct Opening;
+pub struct OpeningGate;
 
 impl<State> PageWrite<State> {
     /// What is written, and where.
@@ -99,7 +99,7 @@ impl PageWrite<Begun> {
     }
 
     /// The first call: closes the gate of the free slot. Where it reads as closed the write has no bytes.
-    pub fn close_gate<D: Area>(self, area: &mut D) -> Result<PageWrite<Closing>, PageFault>
+    pub fn close_gate<D: Area>(self, area: &mut D) -> Result<PageWrite<ClosingGate>, PageFault>
         requires { (2 * self.draft.page + 2) * 272 ≤ length (D.now area.old) }
         ensures draft { IfOk result (λ w. w.draft ≡ self.draft) }
 
@@ -125,14 +125,14 @@ impl PageWrite<Begun> {
         match area.write_at(draft.place(), gate) {
             Ok(()) => Ok(PageWrite {
                 draft,
-                state: Closing,
+                state: ClosingGate,
             }),
             Err(_) => Err(PageFault::DeviceFault),
         }
     }
 }
 
-impl PageWrite<Closing> {
+impl PageWrite<ClosingGate> {
     /// The second call: makes the closed gate stable.
     pub fn sync_closed<D: Area>(self, area: &mut D) -> Result<PageWrite<Closed>, PageFault>
         ensures draft { IfOk result (λ w. w.draft ≡ self.draft) }
@@ -216,7 +216,7 @@ impl PageWrite<Filling> {
 
 impl PageWrite<Filled> {
     /// The fifth call: opens the gate.
-    pub fn open_gate<D: Area>(self, area: &mut D) -> Result<PageWrite<Opening>, PageFault>
+    pub fn open_gate<D: Area>(self, area: &mut D) -> Result<PageWrite<OpeningGate>, PageFault>
         requires { (2 * self.draft.page + 2) * 272 ≤ length (D.now area.old) }
         ensures draft { IfOk result (λ w. w.draft ≡ self.draft) }
 
@@ -235,14 +235,14 @@ impl PageWrite<Filled> {
         match area.write_at(draft.place(), &[GATE_OPEN]) {
             Ok(()) => Ok(PageWrite {
                 draft,
-                state: Opening,
+                state: OpeningGate,
             }),
             Err(_) => Err(PageFault::DeviceFault),
         }
     }
 }
 
-impl PageWrite<Opening> {
+impl PageWrite<OpeningGate> {
     /// The sixth call: makes the open gate stable, and so the page. `PageVector::settle` notes it.
     pub fn sync_open<D: Area>(self, area: &mut D) -> Result<(), PageFault>
         requires { (2 * self.draft.page + 2) * 272 ≤ length (D.now area.old) }

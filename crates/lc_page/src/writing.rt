@@ -4,7 +4,7 @@ ghost use Rattle.lc_page.specs.declared.page_text.PageText.{PageText};
 ghost use Rattle.lc_page.specs.Page.{Page, slot_at, page_in};
 ghost use Rattle.lc_page.specs.PageWrite.{IsBegun, drafted, closing_bytes, Continues, Writes, KeepsPage, SettledIn, HasPage, IsEither};
 
-use crate::page_write::{Begun, Closed, Closing, Filled, Filling, Opening};
+use crate::page_write::{Begun, Closed, ClosingGate, Filled, Filling, OpeningGate};
 use crate::{Draft, PageFault, PageWrite};
 use lc_disk::Area;
 
@@ -13,7 +13,7 @@ use lc_disk::Area;
 #[derive(Drop)]
 pub enum Writing {
     /// The first call is done.
-    AtClosing(PageWrite<Closing>),
+    AtClosing(PageWrite<ClosingGate>),
     /// The second call is done.
     AtClosed(PageWrite<Closed>),
     /// The third call is done.
@@ -21,7 +21,7 @@ pub enum Writing {
     /// The fourth call is done.
     AtFilled(PageWrite<Filled>),
     /// The fifth call is done.
-    AtOpening(PageWrite<Opening>),
+    AtOpening(PageWrite<OpeningGate>),
 }
 
 impl Writing {

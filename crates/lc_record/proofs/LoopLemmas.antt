@@ -7,7 +7,7 @@ use Rattle.std.proofs.Math.Bool.{and-false as and_false}
 use Rattle.lc_record.specs.Words.{bytes_of}
 use Rattle.lc_record.specs.GrammarVersion.{number, later, end_of, version_to}
 use Rattle.lc_record.specs.Record.{span_of, version_of}
-use Rattle.lc_record.specs.Reading.{◌>>=◌, many, range_of, range_at, ranges_at, Place, place, next_lock, step, follow}
+use Rattle.lc_record.specs.Reading.{◌>>=◌, many, range_of, range_at, ranges_at, RangeProgress, place, next_lock, step, follow}
 use Rattle.lc_record.specs.declared.grammar_version.GrammarVersion.{GrammarVersion}
 use Rattle.lc_record.specs.declared.span.Span.{Span}
 use Rattle.lc_record.specs.declared.record.RangeData.{RangeData}
@@ -47,12 +47,12 @@ module _ {A : Type 0} (read : List ℕ → Option (A × List ℕ)) (front : List
       sym so_far ∙ one
 
 -- what stands after ranges that follow, where those before them want a version
-abbrev pub walked_on : GrammarVersion → GrammarVersion → Place → Option (List RangeData × List ℕ) → Option (List ℕ)
+abbrev pub walked_on : GrammarVersion → GrammarVersion → RangeProgress → Option (List RangeData × List ℕ) → Option (List ℕ)
 walked_on needed version before read = read >>= λ ranges. cond (follow before ranges.0 && eqb (number (later needed (version_of ranges.0))) (number version)) (Some ranges.1) None
 
-module _ (needed version : GrammarVersion) (before : Place) (n i : ℕ) (words : List ℕ) (total : Option (List ℕ))
+module _ (needed version : GrammarVersion) (before : RangeProgress) (n i : ℕ) (words : List ℕ) (total : Option (List ℕ))
     (so_far : walked_on needed version before (ranges_at version (n - i) words) ≡ total) where
-  one_step : (range : RangeData) (after : Place) (behind : Option (List RangeData × List ℕ)) → step before (span_of range) ≡ Some after
+  one_step : (range : RangeData) (after : RangeProgress) (behind : Option (List RangeData × List ℕ)) → step before (span_of range) ≡ Some after
       → walked_on needed version before (behind >>= λ y. Some (range ∷ y.0, y.1)) ≡ walked_on (later needed (version_to (end_of (span_of range)))) version after behind
   one_step range after None e = refl
   one_step range after (Some y) e =
@@ -64,7 +64,7 @@ module _ (needed version : GrammarVersion) (before : Place) (n i : ℕ) (words :
   no_step range None e = refl
   no_step range (Some y) e = rw e refl
 
-  pub walk_next : (range : RangeData) (behind : List ℕ) (after : Place) → i < n → range_at version words ≡ Some (range, behind)
+  pub walk_next : (range : RangeData) (behind : List ℕ) (after : RangeProgress) → i < n → range_at version words ≡ Some (range, behind)
       → step before (span_of range) ≡ Some after → walked_on (later needed (version_to (end_of (span_of range)))) version after (ranges_at version (n - (i + 1)) behind) ≡ total
   unfolding many
   walk_next range behind after lt e takes =
@@ -113,16 +113,16 @@ module _ (needed version : GrammarVersion) (before : Place) (n i : ℕ) (words :
       walk_done le ∙ rw (none_left, yes) refl
 
 -- a step ends where the range ends
-pub step_end : (before after : Place) (span : Span) → step before span ≡ Some after → after.end ≡ end_of span
+pub step_end : (before after : RangeProgress) (span : Span) → step before span ≡ Some after → after.end ≡ end_of span
 step_end before after span e = elim (cases_Bool (eqb span.segment before.segment)) [
   | inl same ↦
       let rest : cond (ltb before.end span.offset) (Some (place span.segment (end_of span) before.locks)) None ≡ Some after = rw same at e in
       let taken = cond_some (ltb before.end span.offset) (place span.segment (end_of span) before.locks) after rest in
-      ap (λ (p : Place). p.end) (sym taken.1)
+      ap (λ (p : RangeProgress). p.end) (sym taken.1)
   | inr other ↦
       let rest : (next_lock span.segment before.locks >>= λ locks. Some (place span.segment (end_of span) locks)) ≡ Some after = rw other at e in
       let taken = bind_some (next_lock span.segment before.locks) (λ locks. Some (place span.segment (end_of span) locks)) after rest in
-      ap (λ (p : Place). p.end) (sym (same_Some _ _ taken.2))
+      ap (λ (p : RangeProgress). p.end) (sym (same_Some _ _ taken.2))
 ]
 
 -- a range has as many bytes as it says

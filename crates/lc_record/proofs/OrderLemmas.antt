@@ -6,7 +6,7 @@ use Rattle.std.proofs.lemmas.Bool.{and_parts, and_from, eqb-true, leb-true, ltb-
 use Rattle.std.proofs.lemmas.Option.{cond_some, same_Some}
 use Rattle.lc_record.specs.GrammarVersion.{end_of}
 use Rattle.lc_record.specs.Record.{Chain, IsLock, IsRange, IsBefore, Locks, Writes, span_of}
-use Rattle.lc_record.specs.Reading.{◌>>=◌, is_lock, ascend, Place, place, start, step, holds, follow}
+use Rattle.lc_record.specs.Reading.{◌>>=◌, is_lock, ascend, RangeProgress, place, start, step, holds, follow}
 use Rattle.lc_record.specs.declared.record.Lock.{Lock}
 use Rattle.lc_record.specs.declared.record.RangeData.{RangeData}
 use Rattle.lc_record.specs.declared.span.Span.{Span}
@@ -135,7 +135,7 @@ step_next segment end lock locks span other same =
     let b : eqb lock.segment span.segment ≡ true = eq-eqb _ _ same in
     rw (a, b) refl
 
-same_takes : (segment end : ℕ) (locks : List Lock) (span : Span) (after : Place) → span.segment ≡ segment → step (place segment end locks) span ≡ Some after
+same_takes : (segment end : ℕ) (locks : List Lock) (span : Span) (after : RangeProgress) → span.segment ≡ segment → step (place segment end locks) span ≡ Some after
     → (end < span.offset) × (place span.segment (end_of span) locks ≡ after)
 same_takes segment end locks span after same e =
     let a : eqb span.segment segment ≡ true = eq-eqb _ _ same in
@@ -143,7 +143,7 @@ same_takes segment end locks span after same e =
     let taken = cond_some (ltb end span.offset) (place span.segment (end_of span) locks) after rest in
     (ltb-true _ _ taken.0, taken.1)
 
-next_takes : (segment end : ℕ) (lock : Lock) (locks : List Lock) (span : Span) (after : Place) → (span.segment ≡ segment → ⊥) → step (place segment end (lock ∷ locks)) span ≡ Some after
+next_takes : (segment end : ℕ) (lock : Lock) (locks : List Lock) (span : Span) (after : RangeProgress) → (span.segment ≡ segment → ⊥) → step (place segment end (lock ∷ locks)) span ≡ Some after
     → (lock.segment ≡ span.segment) × (place span.segment (end_of span) locks ≡ after)
 next_takes segment end lock locks span after other e =
     let a : eqb span.segment segment ≡ false = ne_eqb _ _ other in
@@ -155,7 +155,7 @@ next_takes segment end lock locks span after other e =
       | inr is_not ↦ let none : None ≡ Some after = rw is_not at rest in absurd cc
     ]
 
-none_takes : (segment end : ℕ) (span : Span) (after : Place) → (span.segment ≡ segment → ⊥) → step (place segment end []) span ≡ Some after → ⊥
+none_takes : (segment end : ℕ) (span : Span) (after : RangeProgress) → (span.segment ≡ segment → ⊥) → step (place segment end []) span ≡ Some after → ⊥
 none_takes segment end span after other e =
     let a : eqb span.segment segment ≡ false = ne_eqb _ _ other in
     let none : None ≡ Some after = rw a at e in
@@ -169,7 +169,7 @@ follow_takes segment end [] (range ∷ ranges) up e =
     elim (cases_eq range.segment segment) [
       | inl same ↦
           let t = same_takes segment end [] (span_of range) h.0 same h.1 in
-          let later : follow (place range.segment (range_end range) []) ranges ≡ true = ap (λ (p : Place). follow p ranges) t.1 ∙ h.2 in
+          let later : follow (place range.segment (range_end range) []) ranges ≡ true = ap (λ (p : RangeProgress). follow p ranges) t.1 ∙ h.2 in
           followed_same segment end [] range ranges same t.0 (follow_takes range.segment (range_end range) [] ranges tt later)
       | inr other ↦ absurd (none_takes segment end (span_of range) h.0 other h.1)
     ]
@@ -178,12 +178,12 @@ follow_takes segment end (lock ∷ locks) (range ∷ ranges) up e =
     elim (cases_eq range.segment segment) [
       | inl same ↦
           let t = same_takes segment end (lock ∷ locks) (span_of range) h.0 same h.1 in
-          let later : follow (place range.segment (range_end range) (lock ∷ locks)) ranges ≡ true = ap (λ (p : Place). follow p ranges) t.1 ∙ h.2 in
+          let later : follow (place range.segment (range_end range) (lock ∷ locks)) ranges ≡ true = ap (λ (p : RangeProgress). follow p ranges) t.1 ∙ h.2 in
           let still : Ascends range.segment (lock ∷ locks) = subst (λ (n : ℕ). Ascends n (lock ∷ locks)) (sym same) up in
           followed_same segment end (lock ∷ locks) range ranges same t.0 (follow_takes range.segment (range_end range) (lock ∷ locks) ranges still later)
       | inr other ↦
           let t = next_takes segment end lock locks (span_of range) h.0 other h.1 in
-          let later : follow (place range.segment (range_end range) locks) ranges ≡ true = ap (λ (p : Place). follow p ranges) t.1 ∙ h.2 in
+          let later : follow (place range.segment (range_end range) locks) ranges ≡ true = ap (λ (p : RangeProgress). follow p ranges) t.1 ∙ h.2 in
           let still : Ascends range.segment locks = subst (λ (n : ℕ). Ascends n locks) t.0 up.1 in
           followed_next segment end lock locks range ranges t.0 (omega (arith, t.0, up.0)) (follow_takes range.segment (range_end range) locks ranges still later)
     ]

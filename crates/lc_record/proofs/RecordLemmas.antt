@@ -9,7 +9,7 @@ use Rattle.lc_record.specs.Words.{AreWords}
 use Rattle.lc_record.specs.GrammarVersion.{number}
 use Rattle.lc_record.specs.Record.{record_len, header, lock_words, range_words, spelling, version_of, IsLock, IsRange, Locks, Writes, IsCanonical, IsRecord}
 use Rattle.lc_record.specs.Codec.{BeginsWith, BeginsNoRecord}
-use Rattle.lc_record.specs.Reading.{◌>>=◌, Gives, head_at, locks_at, ascend, ranges_at, Place, start, follow, walked, is_closed, Front, front, front_at, len_at, record_of, record_at, Passes}
+use Rattle.lc_record.specs.Reading.{◌>>=◌, Gives, head_at, locks_at, ascend, ranges_at, RangeProgress, start, follow, walked, is_closed, Front, front, front_at, len_at, record_of, record_at, Passes}
 use Rattle.lc_record.specs.declared.parts.Head.{Head}
 use Rattle.lc_record.specs.declared.record.Record.{Record}
 use Rattle.lc_record.specs.declared.record.Lock.{Lock}
@@ -58,7 +58,7 @@ same_number First Second e = absurd (omega (arith, e))
 same_number Second First e = absurd (omega (arith, e))
 same_number Second Second e = refl
 
-walked_takes : (version : GrammarVersion) (before : Place) (read : Option (List RangeData × List ℕ)) (rest : List ℕ) → walked version before read ≡ Some rest
+walked_takes : (version : GrammarVersion) (before : RangeProgress) (read : Option (List RangeData × List ℕ)) (rest : List ℕ) → walked version before read ≡ Some rest
     → (ranges : List RangeData) × (read ≡ Some (ranges, rest)) × (follow before ranges ≡ true) × (version_of ranges ≡ version)
 walked_takes version before read rest e =
     let r = bind_some read (λ ranges. cond (follow before ranges.0 && eqb (number (version_of ranges.0)) (number version)) (Some ranges.1) None) rest e in

@@ -2,7 +2,7 @@
 use Rattle.std.proofs.Common.{◌≡◌, ◌≢◌, ℕ, zero, suc, Bool, true, false, ◌==◌, List, [], ◌∷◌, map, length, replicate, IsTrue, refl, sym, ◌∙◌, ap, subst, true≢false, eqb-true, eq-eqb}
 use Rattle.std.proofs.lemmas.List.Elements.{All-push}
 use Rattle.lc_record.specs.Content.{Content, put, on_segment, segment_of}
-use Rattle.lc_record.specs.Transaction.{Transaction, Written, IsWellFormed, locks, all_set, writes_on}
+use Rattle.lc_record.specs.Transaction.{Transaction, ByteWrite, IsWellFormed, locks, all_set, writes_on}
 use Rattle.lc_record.specs.Marks.{marked, written}
 
 -- Parts of a list of segments
@@ -46,7 +46,7 @@ length-on_segment zero change (x ∷ xs) = refl
 length-on_segment (suc zero) change (x ∷ xs) = refl
 length-on_segment (suc (suc i)) change (x ∷ xs) = ap suc (length-on_segment (suc i) change xs)
 
-pub length-writes_on : (ws : List Written) (content : Content) → length (writes_on ws content) ≡ length content
+pub length-writes_on : (ws : List ByteWrite) (content : Content) → length (writes_on ws content) ≡ length content
 length-writes_on [] content = refl
 length-writes_on (w ∷ ws) content =
     length-writes_on ws (on_segment w.segment (put w.offset w.bytes) content) ∙ length-on_segment w.segment (put w.offset w.bytes) content
@@ -63,7 +63,7 @@ length-change segment other offset items content =
           ap length (segment_of-other segment other (put offset items) content differ)
     ] refl
 
-pub length-written_segment : (segment : ℕ) (ws : List Written) (content : Content) → length (segment_of segment (writes_on ws content)) ≡ length (segment_of segment content)
+pub length-written_segment : (segment : ℕ) (ws : List ByteWrite) (content : Content) → length (segment_of segment (writes_on ws content)) ≡ length (segment_of segment content)
 length-written_segment segment [] content = refl
 length-written_segment segment (w ∷ ws) content =
     length-written_segment segment ws (on_segment w.segment (put w.offset w.bytes) content) ∙ length-change segment w.segment w.offset w.bytes content
@@ -111,9 +111,9 @@ well-marked t segment offset n well lock = record {
 
 pub well-written : (t : Transaction) (segment offset : ℕ) (bytes : List ℕ) → IsWellFormed t → locks t segment ≡ true → all_set offset (length bytes) (segment_of segment t.marks) ≡ true → IsWellFormed (written t segment offset bytes)
 well-written t segment offset bytes well lock set =
-    let w : Written = record { segment = segment; offset = offset; bytes = bytes } in
+    let w : ByteWrite = record { segment = segment; offset = offset; bytes = bytes } in
     record {
       set_locked = well.set_locked;
-      write_locked = All-push (λ (v : Written). IsTrue (locks t v.segment)) t.writes w well.write_locked lock;
-      write_set = All-push (λ (v : Written). IsTrue (all_set v.offset (length v.bytes) (segment_of v.segment t.marks))) t.writes w well.write_set set;
+      write_locked = All-push (λ (v : ByteWrite). IsTrue (locks t v.segment)) t.writes w well.write_locked lock;
+      write_set = All-push (λ (v : ByteWrite). IsTrue (all_set v.offset (length v.bytes) (segment_of v.segment t.marks))) t.writes w well.write_set set;
     }

@@ -119,16 +119,16 @@ items_at version n words = ranges_at version n words >>= λ x. Some x.0
 -- Ranges against locks
 
 -- how far the ranges have come: where the last one ended, and the locks of which none came yet
-pub record Place : Type 0 where
+pub record RangeProgress : Type 0 where
   pub segment : ℕ
   pub end : ℕ
   pub locks : List Lock
 
-abbrev pub place : ℕ → ℕ → List Lock → Place
+abbrev pub place : ℕ → ℕ → List Lock → RangeProgress
 place segment end locks = record { segment = segment; end = end; locks = locks }
 
 -- before the first range; nothing stands in segment 0 after this end
-abbrev pub start : List Lock → Place
+abbrev pub start : List Lock → RangeProgress
 start locks = place 0 262144 locks
 
 -- the next lock is of the segment
@@ -137,7 +137,7 @@ next_lock segment [] = None
 next_lock segment (lock ∷ locks) = if lock.segment == segment then Some locks else None
 
 -- one range more: of the same segment with a gap between, or of the segment of the next lock
-abbrev pub step : Place → Span → Option Place
+abbrev pub step : RangeProgress → Span → Option RangeProgress
 step before span =
     if span.segment == before.segment
     then if nat_lt before.end span.offset then Some (place span.segment (end_of span) before.locks) else None
@@ -148,12 +148,12 @@ holds None test = false
 holds (Some x) test = test x
 
 -- so do all of these, and none of the locks is left
-abbrev pub follow : Place → List RangeData → Bool
+abbrev pub follow : RangeProgress → List RangeData → Bool
 follow before [] = length before.locks == 0
 follow before (range ∷ ranges) = holds (step before (span_of range)) (λ after. follow after ranges)
 
 -- what stands after ranges that follow, and that are of this version
-abbrev pub walked : GrammarVersion → Place → Option (List RangeData × List ℕ) → Option (List ℕ)
+abbrev pub walked : GrammarVersion → RangeProgress → Option (List RangeData × List ℕ) → Option (List ℕ)
 walked version before read = read >>= λ ranges. if follow before ranges.0 && (number (version_of ranges.0) == number version) then Some ranges.1 else None
 
 -- Records

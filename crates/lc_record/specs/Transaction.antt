@@ -7,7 +7,7 @@ abbrev pub Marks : Type 0
 Marks = List (List Bool)
 
 -- one write of bytes
-pub record Written : Type 0 where
+pub record ByteWrite : Type 0 where
   pub segment : ℕ
   pub offset : ℕ
   pub bytes : List ℕ
@@ -21,7 +21,7 @@ pub record Transaction : Type 0 where
   pub reading : List ℕ
   pub marks : Marks
   -- in the order in which they were made
-  pub writes : List Written
+  pub writes : List ByteWrite
 
 abbrev pub is_member : ℕ → List ℕ → Bool
 is_member n [] = false
@@ -48,7 +48,7 @@ pub record IsWellFormed (t : Transaction) : Type 0 where
   pub write_locked : All (λ w. IsTrue (locks t w.segment)) t.writes
   pub write_set : All (λ w. IsTrue (all_set w.offset (length w.bytes) (segment_of w.segment t.marks))) t.writes
 
-abbrev pub writes_on : List Written → Content → Content
+abbrev pub writes_on : List ByteWrite → Content → Content
 writes_on [] content = content
 writes_on (w ∷ ws) content = writes_on ws (on_segment w.segment (put w.offset w.bytes) content)
 

@@ -20,12 +20,12 @@ mod part;
 mod parts;
 mod placed_span;
 mod putting;
+mod range_cursor;
 mod record;
 mod span;
 mod spans;
 mod spelling;
 mod view;
-mod walk;
 
 pub use decoding::{check, decode};
 pub use encoding::{encode, encoded_words};

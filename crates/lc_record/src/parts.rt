@@ -13,8 +13,8 @@ use crate::limits::{
     GATE_OPEN, MAX_LOCKS, MAX_NODE, MAX_OFFSET, MAX_RANGES, MAX_WORDS, SECOND_END,
 };
 use crate::lock_words::{LockWords, locks_of};
+use crate::range_cursor::{start, step};
 use crate::span::Span;
-use crate::walk::{start, step};
 
 /// What the first two words say.
 #[derive(Clone, Copy)]

@@ -13,9 +13,9 @@ use Rattle.lc_record.specs.declared.geometry.Geometry.{Geometry}
 use Rattle.lc_record.proofs.ListLemmas.{slice_get-append_left as get-append, slice_get_push as get-append_end}
 use Rattle.lc_recover.specs.Reads.{AreHonest, AllMergeTo}
 use Rattle.lc_log.specs.OneCall.{IsOneCall}
-use Rattle.lc_recover.specs.Stage.{AreaFits, AreasFit, OneCall, Quiet}
-use Rattle.lc_recover.specs.declared.stage.Stage.{Stage}
-use Rattle.lc_recover.specs.declared.stage.Stage.TheVariants.{Syncing}
+use Rattle.lc_recover.specs.RecoveryPhase.{AreaFits, AreasFit, OneCall, Quiet}
+use Rattle.lc_recover.specs.declared.recovery_phase.RecoveryPhase.{RecoveryPhase}
+use Rattle.lc_recover.specs.declared.recovery_phase.RecoveryPhase.TheVariants.{Syncing}
 
 -- what stands in a list of which one place was set
 pub get-set : {A : Type 0} (xs : List A) (k : ℕ) (y : A) (j : ℕ) (x : A) → slice_get (slice_set xs k y) j ≡ Some x → ((j ≡ k) × (x ≡ y)) ⊎ ((j ≢ k) × (slice_get xs j ≡ Some x))
@@ -49,7 +49,7 @@ each-set {A = A} P xs k y others own j x is =
     ]
 
 module _ {D : Type 0} (a : Ghosts D) (g : Geometry) where
-  pub begins : (stage : Stage) (areas : List D) → AreasFit a g stage areas → AreasFit a g (Syncing 0) areas
+  pub begins : (stage : RecoveryPhase) (areas : List D) → AreasFit a g stage areas → AreasFit a g (Syncing 0) areas
   begins stage areas fits = record {
     count = fits.count;
     each = λ k area is. record {
@@ -60,7 +60,7 @@ module _ {D : Type 0} (a : Ghosts D) (g : Geometry) where
     };
   }
 
-  pub quiet-bytes : (stage : Stage) (k : ℕ) (old new : D) → AreaFits a g stage k old → Quiet a old new → a.honest new ≡ true → (at : ℕ) → slice_index_or (a.now new) at 0 < 256
+  pub quiet-bytes : (stage : RecoveryPhase) (k : ℕ) (old new : D) → AreaFits a g stage k old → Quiet a old new → a.honest new ≡ true → (at : ℕ) → slice_index_or (a.now new) at 0 < 256
   quiet-bytes stage k old new fits quiet honest =
       let was : a.honest old ≡ true = sym quiet.honest ∙ honest in
       subst (λ (l : List ℕ). (at : ℕ) → slice_index_or l at 0 < 256) (sym (quiet.same was)) (fits.bytes was)
@@ -70,7 +70,7 @@ module _ {D : Type 0} (a : Ghosts D) (g : Geometry) where
     count-set = length-set areas k new
 
     -- each area is as it was, and the one that was called is as is told
-    pub fits-set : (stage later : Stage) → AreasFit a g stage areas →
+    pub fits-set : (stage later : RecoveryPhase) → AreasFit a g stage areas →
         ((j : ℕ) (area : D) → j ≢ k → slice_get areas j ≡ Some area → AreaFits a g stage j area → AreaFits a g later j area) →
         AreaFits a g later k new → AreasFit a g later (slice_set areas k new)
     fits-set stage later fits others own = record {
@@ -78,7 +78,7 @@ module _ {D : Type 0} (a : Ghosts D) (g : Geometry) where
       each = each-set (λ j area. AreaFits a g later j area) areas k new (λ j area differ is. others j area differ is (fits.each j area is)) own;
     }
 
-    pub quiet-begins : (stage : Stage) → AreasFit a g stage areas → Quiet a old new → AreasFit a g (Syncing 0) (slice_set areas k new)
+    pub quiet-begins : (stage : RecoveryPhase) → AreasFit a g stage areas → Quiet a old new → AreasFit a g (Syncing 0) (slice_set areas k new)
     quiet-begins stage fits quiet =
         fits-set (Syncing 0) (Syncing 0) (begins stage areas fits) (λ j area differ is f. f) (record {
           len = ap Some quiet.len ∙ (fits.each k old was).len;

@@ -10,19 +10,19 @@ use Rattle.lc_record.specs.declared.geometry.Geometry.{Geometry}
 use Rattle.lc_record.proofs.ListLemmas.{slice_get_some as get-some, slice_get-map_some as get-map, slice_get-take as get-take}
 use Rattle.lc_recover.proofs.AreaLemmas.{each-set, get-set, quiet-reads, set-get, set-others}
 use Rattle.lc_log.proofs.WalkBackLemmas.{words_within}
-use Rattle.lc_model.specs.Merge.{Store}
+use Rattle.lc_model.specs.Merge.{StoreText}
 use Rattle.lc_recover.proofs.Images.{len-log}
 use Rattle.lc_recover.proofs.Meanings.{kept-store}
 use Rattle.lc_recover.proofs.MergeStep.{its-store}
 use Rattle.lc_recover.proofs.ReadLemmas.{count-read, counted-log, counted-none, counted-segment, first-more, read-log, read-segment, read-none as kept-none}
-use Rattle.lc_recover.specs.Kept.{IsKept}
+use Rattle.lc_recover.specs.StoreContents.{IsKept}
 use Rattle.lc_recover.specs.Reading.{store_of as kept_store}
 use Rattle.lc_recover.specs.KeptAreas.{AddsLog, AddsSegment, IsReadOf, IsReadWhole, read_count}
 use Rattle.lc_recover.specs.Reads.{area_count, area_len, AreHonest, AreLeftAs, IsLeftAs, store_of}
-use Rattle.lc_recover.specs.Stage.{AreasFit, Quiet}
+use Rattle.lc_recover.specs.RecoveryPhase.{AreasFit, Quiet}
 use Rattle.lc_recover.specs.declared.read_areas.ReadAreas.{ReadAreas}
 use Rattle.lc_recover.specs.declared.segment_pages.SegmentPages.{SegmentPages}
-use Rattle.lc_recover.specs.declared.stage.Stage.TheVariants.{Syncing}
+use Rattle.lc_recover.specs.declared.recovery_phase.RecoveryPhase.TheVariants.{Syncing}
 
 take-next : {A : Type 0} (xs : List A) (k : ℕ) (x : A) → slice_get xs k ≡ Some x → take (suc k) xs ≡ take k xs ++ x ∷ []
 take-next [] k x is = absurd (none-some x is)
@@ -156,7 +156,7 @@ module _ (g : Geometry) (bytes : List (List ℕ)) (r : ReadAreas) (whole : IsRea
   same-store = kept-store r.kept.logs.items r.kept.segments.items (store_of g bytes) (its-store g bytes r whole)
 
   pub own-store : IsKept r.kept.logs.items r.kept.segments.items (kept_store r.kept.logs.items r.kept.segments.items)
-  own-store = subst (λ (s : Store). IsKept r.kept.logs.items r.kept.segments.items s) (sym same-store) (its-store g bytes r whole)
+  own-store = subst (λ (s : StoreText). IsKept r.kept.logs.items r.kept.segments.items s) (sym same-store) (its-store g bytes r whole)
 
   -- a log is short
   pub short-log : (node : ℕ) (default : List ℕ) → node < g.nodes → length (get_or r.kept.logs.items node default) ≤ 4097

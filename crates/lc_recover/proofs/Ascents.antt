@@ -32,10 +32,10 @@ use Rattle.lc_log.specs.LogText.{placed}
 use Rattle.lc_log.specs.InPlace.{records_in, spans_from}
 use Rattle.lc_log.proofs.InPlaceLemmas.{records_text, span_begins}
 use Rattle.lc_recover.specs.Pages.{kept_pages}
-use Rattle.lc_recover.specs.Kept.{IsChange, IsBefore, AreAscending, IsIndex}
+use Rattle.lc_recover.specs.StoreContents.{IsChange, IsBefore, AreAscending, IsIndex}
 use Rattle.lc_recover.specs.Reading.{placed_in, store_of}
-use Rattle.lc_recover.specs.Changes.{Seat, seat, seats_of, seats_from, IsOf, AreOf}
-use Rattle.lc_recover.specs.declared.change.Change.{Change}
+use Rattle.lc_recover.specs.Changes.{PlacedRecord, seat, seats_of, seats_from, IsOf, AreOf}
+use Rattle.lc_recover.specs.declared.redo_range.RedoRange.{RedoRange}
 use Rattle.lc_recover.specs.declared.segment_pages.SegmentPages.{SegmentPages}
 use Rattle.lc_recover.proofs.Walks.{placed-records, record-in}
 use Rattle.lc_recover.proofs.Counts.{contains-cons}
@@ -43,20 +43,20 @@ use Rattle.lc_recover.proofs.Counts.{contains-cons}
 -- Comparing
 
 -- by what says where the range stands
-abbrev pub behind : Change → Change → Ordering
+abbrev pub behind : RedoRange → RedoRange → Ordering
 behind a b =
     ordering_then (nat_cmp a.log b.log)
     (ordering_then (nat_cmp a.place b.place) (ordering_then (nat_cmp a.words b.words) (ordering_then (nat_cmp a.offset b.offset) (nat_cmp a.len b.len))))
 
-abbrev pub alike : Change → Change → Bool
+abbrev pub alike : RedoRange → RedoRange → Bool
 alike a b = (a.log == b.log) && ((a.place == b.place) && ((a.words == b.words) && ((a.offset == b.offset) && (a.len == b.len))))
 
-abbrev pub compare : Change → Change → Ordering
+abbrev pub compare : RedoRange → RedoRange → Ordering
 compare a b =
     ordering_then (nat_cmp a.segment b.segment)
     (ordering_then (nat_cmp a.page b.page) (ordering_then (nat_cmp a.seq b.seq) (behind a b)))
 
-abbrev pub equal : Change → Change → Bool
+abbrev pub equal : RedoRange → RedoRange → Bool
 equal a b = (a.segment == b.segment) && ((a.page == b.page) && ((a.seq == b.seq) && alike a b))
 
 eq-nat : (a b : ℕ) → (a == b) ≡ is_eq (nat_cmp a b)
@@ -76,11 +76,11 @@ eq-then Greater p = refl
 eq-step : (a b : ℕ) (t : Bool) (o : Ordering) → t ≡ is_eq o → ((a == b) && t) ≡ is_eq (ordering_then (nat_cmp a b) o)
 eq-step a b t o same = ap₂ (λ (x y : Bool). x && y) (eq-nat a b) same ∙ eq-then (nat_cmp a b) o
 
-ties : (a b : Change) → equal a b ≡ is_eq (compare a b)
+ties : (a b : RedoRange) → equal a b ≡ is_eq (compare a b)
 ties a b =
     eq-step a.segment b.segment _ _ (eq-step a.page b.page _ _ (eq-step a.seq b.seq _ _ (eq-step a.log b.log _ _ (eq-step a.place b.place _ _ (eq-step a.words b.words _ _ (eq-step a.offset b.offset _ _ (eq-nat a.len b.len)))))))
 
-same-change : (a b : Change) → equal a b ≡ true → a ≡ b
+same-change : (a b : RedoRange) → equal a b ≡ true → a ≡ b
 same-change a b h =
     let one = and_parts (a.segment == b.segment) ((a.page == b.page) && ((a.seq == b.seq) && alike a b)) h in
     let two = and_parts (a.page == b.page) ((a.seq == b.seq) && alike a b) one.1 in
@@ -123,32 +123,32 @@ contains-from_map f (x ∷ xs) y c = elim (contains-cons (f x) (map f xs) y c) [
   | inr behind ↦ (let rest = contains-from_map f xs y behind in (rest.0, contains-behind x xs rest.0 rest.1, rest.2))
 ]
 
-its-seats : (log : ℕ) (xs : List (ℕ × Record)) → map (λ (s : Seat). s.its) (map (λ (x : ℕ × Record). seat log x.0 x.1) xs) ≡ map (λ (x : ℕ × Record). x.1) xs
+its-seats : (log : ℕ) (xs : List (ℕ × Record)) → map (λ (s : PlacedRecord). s.its) (map (λ (x : ℕ × Record). seat log x.0 x.1) xs) ≡ map (λ (x : ℕ × Record). x.1) xs
 its-seats log [] = refl
 its-seats log (x ∷ xs) = ap (λ (l : List Record). x.1 ∷ l) (its-seats log xs)
 
-pub map-its : (n : ℕ) (logs : List (List ℕ)) → map (λ (s : Seat). s.its) (seats_from n logs) ≡ flat_map (λ (l : List Record). l) (map records_in logs)
+pub map-its : (n : ℕ) (logs : List (List ℕ)) → map (λ (s : PlacedRecord). s.its) (seats_from n logs) ≡ flat_map (λ (l : List Record). l) (map records_in logs)
 map-its n [] = refl
 map-its n (words ∷ logs) =
-    map-append (λ (s : Seat). s.its) (seats_of n words) (seats_from (n + 1) logs)
+    map-append (λ (s : PlacedRecord). s.its) (seats_of n words) (seats_from (n + 1) logs)
     ∙ ap₂ (λ (x y : List Record). x ++ y) (its-seats n (placed_in words) ∙ placed-records 0 (records_in words)) (map-its (n + 1) logs)
 
-record Known (n : ℕ) (logs : List (List ℕ)) (s : Seat) : Type 0 where
+record Known (n : ℕ) (logs : List (List ℕ)) (s : PlacedRecord) : Type 0 where
   place : ℕ
   is : s.log ≡ n + place
   within : place < length logs
   among : Contains (placed_in (get_or logs place [])) (s.place, s.its)
 
-known : (n : ℕ) (logs : List (List ℕ)) (s : Seat) → Contains (seats_from n logs) s → Known n logs s
+known : (n : ℕ) (logs : List (List ℕ)) (s : PlacedRecord) → Contains (seats_from n logs) s → Known n logs s
 known n [] s c = absurd (omega (arith, c.1))
 known n (words ∷ logs) s c = elim (Contains-append_cases (seats_of n words) (seats_from (n + 1) logs) s c) [
   | inl own ↦
       let at = contains-from_map (λ (x : ℕ × Record). seat n x.0 x.1) (placed_in words) s own in
       record {
         place = 0;
-        is = sym (ap (λ (t : Seat). t.log) at.2) ∙ omega arith;
+        is = sym (ap (λ (t : PlacedRecord). t.log) at.2) ∙ omega arith;
         within = omega arith;
-        among = subst (λ (x : ℕ × Record). Contains (placed_in words) x) (ap₂ (λ (p : ℕ) (r : Record). (p, r)) (ap (λ (t : Seat). t.place) at.2) (ap (λ (t : Seat). t.its) at.2)) at.1;
+        among = subst (λ (x : ℕ × Record). Contains (placed_in words) x) (ap₂ (λ (p : ℕ) (r : Record). (p, r)) (ap (λ (t : PlacedRecord). t.place) at.2) (ap (λ (t : PlacedRecord). t.its) at.2)) at.1;
       }
   | inr behind ↦
       let rest : Known (n + 1) logs s = known (n + 1) logs s behind in
@@ -186,23 +186,23 @@ placed-begins ws x c =
 
 compare_total : IsTotalOrder compare
 compare_total =
-    then_total (on_total (λ (c : Change). c.segment) nat_cmp_total)
-    (then_total (on_total (λ (c : Change). c.page) nat_cmp_total)
-    (then_total (on_total (λ (c : Change). c.seq) nat_cmp_total)
-    (then_total (on_total (λ (c : Change). c.log) nat_cmp_total)
-    (then_total (on_total (λ (c : Change). c.place) nat_cmp_total)
-    (then_total (on_total (λ (c : Change). c.words) nat_cmp_total)
-    (then_total (on_total (λ (c : Change). c.offset) nat_cmp_total) (on_total (λ (c : Change). c.len) nat_cmp_total)))))))
+    then_total (on_total (λ (c : RedoRange). c.segment) nat_cmp_total)
+    (then_total (on_total (λ (c : RedoRange). c.page) nat_cmp_total)
+    (then_total (on_total (λ (c : RedoRange). c.seq) nat_cmp_total)
+    (then_total (on_total (λ (c : RedoRange). c.log) nat_cmp_total)
+    (then_total (on_total (λ (c : RedoRange). c.place) nat_cmp_total)
+    (then_total (on_total (λ (c : RedoRange). c.words) nat_cmp_total)
+    (then_total (on_total (λ (c : RedoRange). c.offset) nat_cmp_total) (on_total (λ (c : RedoRange). c.len) nat_cmp_total)))))))
 
 equal_equiv : IsEquivalence equal
 equal_equiv =
-    and_equiv (on_equiv (λ (c : Change). c.segment) nat_eq_equiv)
-    (and_equiv (on_equiv (λ (c : Change). c.page) nat_eq_equiv)
-    (and_equiv (on_equiv (λ (c : Change). c.seq) nat_eq_equiv)
-    (and_equiv (on_equiv (λ (c : Change). c.log) nat_eq_equiv)
-    (and_equiv (on_equiv (λ (c : Change). c.place) nat_eq_equiv)
-    (and_equiv (on_equiv (λ (c : Change). c.words) nat_eq_equiv)
-    (and_equiv (on_equiv (λ (c : Change). c.offset) nat_eq_equiv) (on_equiv (λ (c : Change). c.len) nat_eq_equiv)))))))
+    and_equiv (on_equiv (λ (c : RedoRange). c.segment) nat_eq_equiv)
+    (and_equiv (on_equiv (λ (c : RedoRange). c.page) nat_eq_equiv)
+    (and_equiv (on_equiv (λ (c : RedoRange). c.seq) nat_eq_equiv)
+    (and_equiv (on_equiv (λ (c : RedoRange). c.log) nat_eq_equiv)
+    (and_equiv (on_equiv (λ (c : RedoRange). c.place) nat_eq_equiv)
+    (and_equiv (on_equiv (λ (c : RedoRange). c.words) nat_eq_equiv)
+    (and_equiv (on_equiv (λ (c : RedoRange). c.offset) nat_eq_equiv) (on_equiv (λ (c : RedoRange). c.len) nat_eq_equiv)))))))
 
 -- a range whose bytes stand there is that of the record
 record IsThere (words : List ℕ) (r : Record) (placed : PlacedSpan) : Type 0 where
@@ -223,18 +223,18 @@ is_there words r placed begins has =
     }
 
 module _ (logs : List (List ℕ)) (segments : List SegmentPages) where
-  pub is-change : (s : Seat) (c : Change) → Contains (seats_from 0 logs) s → IsOf (map kept_pages segments) s c → IsChange logs (store_of logs segments) c
+  pub is-change : (s : PlacedRecord) (c : RedoRange) → Contains (seats_from 0 logs) s → IsOf (map kept_pages segments) s c → IsChange logs (store_of logs segments) c
   is-change s c there its =
       let k : Known 0 logs s = known 0 logs s there in
       let placed : PlacedSpan = its.placed in
-      let own_log : c.log ≡ s.log = ap (λ (d : Change). d.log) its.is in
+      let own_log : c.log ≡ s.log = ap (λ (d : RedoRange). d.log) its.is in
       let log : k.place ≡ c.log = omega (arith, k.is, own_log) in
       let among : Contains (placed_in (get_or logs c.log [])) (s.place, s.its) = subst (λ (n : ℕ). Contains (placed_in (get_or logs n [])) (s.place, s.its)) log k.among in
       let within : c.log < length logs = omega (arith, log, k.within) in
       let words : get_or (map records_in logs) c.log [] ≡ records_in (get_or logs c.log []) = get_or-map records_in logs c.log [] [] within in
       let begins : BeginsWith (drop s.place (get_or logs c.log [])) s.its (record_len s.its) = placed-begins (get_or logs c.log []) (s.place, s.its) among in
       let own = is_there (drop s.place (get_or logs c.log [])) s.its its.placed begins its.its in
-      let segment : c.segment ≡ its.placed.span.segment = ap (λ (d : Change). d.segment) its.is in
+      let segment : c.segment ≡ its.placed.span.segment = ap (λ (d : RedoRange). d.segment) its.is in
       record {
         changing = s.its;
         among = subst (λ (l : List Record). Contains l s.its) (sym words) (record-in (get_or logs c.log []) (s.place, s.its) among);
@@ -244,13 +244,13 @@ module _ (logs : List (List ℕ)) (segments : List SegmentPages) where
         names = record {
           within = within;
           segment = sym segment;
-          offset = sym (ap (λ (d : Change). d.offset) its.is);
-          len = own.long ∙ sym (ap (λ (d : Change). d.len) its.is);
-          bytes = ap (λ (n : ℕ). take n (bytes_of (drop c.words (drop c.place (get_or logs c.log []))))) (ap (λ (d : Change). d.len) its.is)
-              ∙ ap (λ (n : ℕ). take its.placed.span.len (bytes_of (drop n (drop c.place (get_or logs c.log []))))) (ap (λ (d : Change). d.words) its.is)
-              ∙ ap (λ (n : ℕ). take its.placed.span.len (bytes_of (drop its.placed.place (drop n (get_or logs c.log []))))) (ap (λ (d : Change). d.place) its.is);
+          offset = sym (ap (λ (d : RedoRange). d.offset) its.is);
+          len = own.long ∙ sym (ap (λ (d : RedoRange). d.len) its.is);
+          bytes = ap (λ (n : ℕ). take n (bytes_of (drop c.words (drop c.place (get_or logs c.log []))))) (ap (λ (d : RedoRange). d.len) its.is)
+              ∙ ap (λ (n : ℕ). take its.placed.span.len (bytes_of (drop n (drop c.place (get_or logs c.log []))))) (ap (λ (d : RedoRange). d.words) its.is)
+              ∙ ap (λ (n : ℕ). take its.placed.span.len (bytes_of (drop its.placed.place (drop n (get_or logs c.log []))))) (ap (λ (d : RedoRange). d.place) its.is);
         };
-        number = ap (λ (n : ℕ). number_or_zero n s.its.locks) segment ∙ sym (ap (λ (d : Change). d.seq) its.is);
+        number = ap (λ (n : ℕ). number_or_zero n s.its.locks) segment ∙ sym (ap (λ (d : RedoRange). d.seq) its.is);
         text = its.text;
         page = its.page;
         newer = its.newer;
@@ -259,7 +259,7 @@ module _ (logs : List (List ℕ)) (segments : List SegmentPages) where
         has = its.has;
       }
 
-  before : (c d : Change) → compare c d ≡ Less → IsBefore c d
+  before : (c d : RedoRange) → compare c d ≡ Less → IsBefore c d
   before c d less = elim (less-cases c.segment d.segment (ordering_then (nat_cmp c.page d.page) (ordering_then (nat_cmp c.seq d.seq) (behind c d))) less) [
     | inl segment ↦ inl segment
     | inr one ↦ inr (
@@ -277,23 +277,23 @@ module _ (logs : List (List ℕ)) (segments : List SegmentPages) where
     )
   ]
 
-  ascending : (changes : List Change) → IsStrictlySortedBy compare changes → AreAscending changes
+  ascending : (changes : List RedoRange) → IsStrictlySortedBy compare changes → AreAscending changes
   unfolding IsStrictlySortedBy
   ascending [] sorted = tt
   ascending (c ∷ cs) sorted = (
-    (λ k d within. before c (get_or cs k d) (All-from_recursion (λ (x : Change). compare c x ≡ Less) cs sorted.0 k d within)),
+    (λ k d within. before c (get_or cs k d) (All-from_recursion (λ (x : RedoRange). compare c x ≡ Less) cs sorted.0 k d within)),
     ascending cs sorted.1,
   )
 
-  pub are-index : (added sorted kept : List Change) → AreOf (map kept_pages segments) (seats_from 0 logs) added → IsPermutation added sorted → IsSorted compare sorted → kept ≡ dedup equal sorted
+  pub are-index : (added sorted kept : List RedoRange) → AreOf (map kept_pages segments) (seats_from 0 logs) added → IsPermutation added sorted → IsSorted compare sorted → kept ≡ dedup equal sorted
       → IsIndex logs (store_of logs segments) kept
   are-index added sorted kept of moved order is =
-      let sound : (c : Change) → Contains (dedup equal sorted) c → (s : Seat) × Contains (seats_from 0 logs) s × IsOf (map kept_pages segments) s c =
+      let sound : (c : RedoRange) → Contains (dedup equal sorted) c → (s : PlacedRecord) × Contains (seats_from 0 logs) s × IsOf (map kept_pages segments) s c =
       λ c there. of.sound c (Contains-permutation sorted added c (IsPermutation-sym added sorted moved) (Contains-from_dedup equal sorted c there)) in
-      subst (λ (l : List Change). IsIndex logs (store_of logs segments) l) (sym is) (record {
+      subst (λ (l : List RedoRange). IsIndex logs (store_of logs segments) l) (sym is) (record {
         sound = λ k d within. (let c = get_or (dedup equal sorted) k d in let its = sound c (k, within, same-item (dedup equal sorted) k c d within) in is-change its.0 c its.1 its.2);
         whole = λ segment page offset text r at there within has.
-            (let s = contains-from_map (λ (u : Seat). u.its) (seats_from 0 logs) r (subst (λ (l : List Record). Contains l r) (sym (map-its 0 logs)) there) in
+            (let s = contains-from_map (λ (u : PlacedRecord). u.its) (seats_from 0 logs) r (subst (λ (l : List Record). Contains l r) (sym (map-its 0 logs)) there) in
             let c = of.whole s.0 s.1 segment page offset text at within (subst (λ (x : Record). IsTrue (has_byte segment (page * 256 + offset) text.sequence x)) (sym s.2) has) in
             (c.0, Contains-dedup equal_equiv same-change sorted c.0 (Contains-permutation added sorted c.0 moved c.1), c.2, c.3, c.4 ∙ ap (λ (x : Record). number_or_zero segment x.locks) s.2, c.5));
         ascending = ascending (dedup equal sorted) (IsStrictlySortedBy-dedup compare_total ties sorted order);

@@ -23,12 +23,12 @@ use Rattle.lc_model.proofs.One.{by_number-one, part-times}
 use Rattle.lc_model.proofs.Visible.{in-logs, log-known}
 use Rattle.lc_recover.proofs.MergedPage.{ascending_behind, page_merged, ranges_stand}
 use Rattle.lc_recover.proofs.PagesOf.{all_behind}
-use Rattle.lc_recover.specs.Kept.{IsChange, AreAscending}
+use Rattle.lc_recover.specs.StoreContents.{IsChange, AreAscending}
 use Rattle.lc_recover.specs.Page.{IsOf, IsOfAnother, AreAt, AreOfPage, IsFirstPage, byte_with}
 use Rattle.lc_recover.specs.Pages.{bytes_of_page}
 use Rattle.lc_recover.specs.Position.{HasChange}
-use Rattle.lc_recover.specs.Stage.{AsFarAs, IsNext, IsOld, IsWriting}
-use Rattle.lc_recover.specs.declared.change.Change.{Change}
+use Rattle.lc_recover.specs.RecoveryPhase.{AsFarAs, IsNext, IsOld, IsWriting}
+use Rattle.lc_recover.specs.declared.redo_range.RedoRange.{RedoRange}
 use Rattle.lc_recover.specs.declared.page_writes.PageWrites.{PageWrites}
 use Rattle.lc_recover.specs.declared.segment_pages.SegmentPages.{SegmentPages}
 
@@ -36,23 +36,23 @@ pub found_at : {A : Type 0} (xs : List A) (k : ℕ) (x : A) → Contains xs x �
 found_at xs k x has = (has.0, slice_get-get_or xs has.0 x has.1 ∙ ap Some has.2)
 
 -- the changes of the next page are at the front of those that are left, and this is the first of them
-pub record ComesNext (changes : List Change) (next : ℕ) (here : List Change) (c : Change) : Type 0 where
+pub record ComesNext (changes : List RedoRange) (next : ℕ) (here : List RedoRange) (c : RedoRange) : Type 0 where
   pub at : slice_get changes next ≡ Some c
   pub first : IsFirstPage (drop next changes) here
   pub some : 1 ≤ length here
   pub few : next + length here ≤ length changes
 
-pub comes_next : (changes slice here : List Change) (next : ℕ) (default : Change) → slice ≡ changes → next < length changes
+pub comes_next : (changes slice here : List RedoRange) (next : ℕ) (default : RedoRange) → slice ≡ changes → next < length changes
     → IsFirstPage (take (length slice - next) (drop next slice)) here → ComesNext changes next here (get_or here 0 default)
 comes_next changes slice here next default same left its =
-    let first : IsFirstPage (drop next changes) here = subst (λ (l : List Change). IsFirstPage l here) (all_behind next slice ∙ ap (λ (l : List Change). drop next l) same) its in
+    let first : IsFirstPage (drop next changes) here = subst (λ (l : List RedoRange). IsFirstPage l here) (all_behind next slice ∙ ap (λ (l : List RedoRange). drop next l) same) its in
     let long : length (drop next changes) ≡ length changes - next = length-drop next changes in
     let some : 1 ≤ length here = first.some (omega (arith, long, left)) in
-    let all : length (drop next changes) ≡ length here + length first.rest = ap (λ (l : List Change). length l) first.whole ∙ length-append here first.rest in
+    let all : length (drop next changes) ≡ length here + length first.rest = ap (λ (l : List RedoRange). length l) first.whole ∙ length-append here first.rest in
     let zero_more : next ≡ next + 0 = omega arith in
     record {
       at = ap (λ (k : ℕ). slice_get changes k) zero_more ∙ sym (get-drop next 0 changes)
-          ∙ ap (λ (l : List Change). slice_get l 0) first.whole ∙ get-append here first.rest 0 (omega (arith, some)) ∙ slice_get-get_or here 0 default (omega (arith, some));
+          ∙ ap (λ (l : List RedoRange). slice_get l 0) first.whole ∙ get-append here first.rest 0 (omega (arith, some)) ∙ slice_get-get_or here 0 default (omega (arith, some));
       first = first;
       some = some;
       few = omega (arith, long, all, left);
@@ -64,7 +64,7 @@ some_segment zero page (x ∷ xs) text is = absurd (none-some text (sym (slice_g
 some_segment (suc zero) page (x ∷ xs) text is = (omega arith, omega arith)
 some_segment (suc (suc n)) page (x ∷ xs) text is = (omega arith, omega (arith, (some_segment (suc n) page xs text is).1))
 
-module _ (g : Geometry) (w : PageWrites) (i : IsWriting g w) (c : Change) (at : slice_get w.merged.changes.items w.next ≡ Some c) where
+module _ (g : Geometry) (w : PageWrites) (i : IsWriting g w) (c : RedoRange) (at : slice_get w.merged.changes.items w.next ≡ Some c) where
   pub its_change : IsChange w.kept.logs.items i.store c
   its_change = All-contains (IsChange w.kept.logs.items i.store) w.merged.changes.items c i.merging.index.sound (contains_at w.merged.changes.items w.next c at)
 
@@ -93,7 +93,7 @@ module _ (g : Geometry) (w : PageWrites) (i : IsWriting g w) (c : Change) (at : 
       length-take-le 256 (drop (c.page * 256) (segment_of c.segment i.content)) (omega (arith, length-drop (c.page * 256) (segment_of c.segment i.content), times, many, its_page))
 
   pub back_is : drop w.next w.merged.changes.items ≡ i.between.back
-  back_is = ap (λ (l : List Change). drop w.next l) i.between.all ∙ drop_at i.between.front i.between.back w.next i.between.count
+  back_is = ap (λ (l : List RedoRange). drop w.next l) i.between.all ∙ drop_at i.between.front i.between.back w.next i.between.count
 
   next_zero : w.next + 0 ≡ w.next
   next_zero = omega arith
@@ -102,7 +102,7 @@ module _ (g : Geometry) (w : PageWrites) (i : IsWriting g w) (c : Change) (at : 
   there = get-drop w.next 0 w.merged.changes.items ∙ ap (λ (k : ℕ). slice_get w.merged.changes.items k) next_zero ∙ at
 
   pub back_has : Contains i.between.back c
-  back_has = subst (λ (l : List Change). Contains l c) back_is (contains_at (drop w.next w.merged.changes.items) 0 c there)
+  back_has = subst (λ (l : List RedoRange). Contains l c) back_is (contains_at (drop w.next w.merged.changes.items) 0 c there)
 
   pub none_front : HasChange i.between.front c.segment c.page → ⊥
   none_front has = i.between.apart c.segment c.page has (c, back_has, (refl, refl))
@@ -110,11 +110,11 @@ module _ (g : Geometry) (w : PageWrites) (i : IsWriting g w) (c : Change) (at : 
   pub back_ascends : AreAscending (drop w.next w.merged.changes.items)
   back_ascends = subst AreAscending (sym back_is) (ascending_behind i.between.front i.between.back (subst AreAscending i.between.all i.merging.index.ascending))
 
-  pub here_of : (here : List Change) → IsFirstPage (drop w.next w.merged.changes.items) here → AreOfPage w.merged.changes.items c.segment c.page here
+  pub here_of : (here : List RedoRange) → IsFirstPage (drop w.next w.merged.changes.items) here → AreOfPage w.merged.changes.items c.segment c.page here
   here_of here first = record {
     before = i.between.front;
     behind = first.rest;
-    whole = i.between.all ∙ ap (λ (l : List Change). i.between.front ++ l) (sym back_is ∙ first.whole);
+    whole = i.between.all ∙ ap (λ (l : List RedoRange). i.between.front ++ l) (sym back_is ∙ first.whole);
     of_page = first.of_first c there;
     none_before = All-weaker (Contains i.between.front) (IsOfAnother c.segment c.page) (λ d has of. none_front (d, has, of)) i.between.front (All-contains_itself i.between.front);
     none_behind = first.no_more c there back_ascends;
@@ -151,7 +151,7 @@ module _ (g : Geometry) (w : PageWrites) (i : IsWriting g w) (c : Change) (at : 
       let all : record_number c.segment i.store ≤ max (page_number c.segment i.store) (record_number c.segment i.store) = le-max_right (page_number c.segment i.store) (record_number c.segment i.store) in
       omega (arith, above, most, counted, all, (still_old pages kept).sequence)
 
-  pub bytes_are : (here : List Change) → IsFirstPage (drop w.next w.merged.changes.items) here
+  pub bytes_are : (here : List RedoRange) → IsFirstPage (drop w.next w.merged.changes.items) here
       → (pages : SegmentPages) → slice_get w.kept.segments.items (c.segment - 1) ≡ Some pages
       → (bytes before : List ℕ) → length bytes ≡ 256 → before ≡ bytes_of_page pages c.page
       → ((ranges : List RangeData) (segment page : ℕ) → AreAt w.kept.logs.items here ranges → All (IsOf segment page) here →
@@ -181,7 +181,7 @@ module _ (g : Geometry) (w : PageWrites) (i : IsWriting g w) (c : Change) (at : 
 
 -- The first change of a slice of those that are left
 
-module _ (g : Geometry) (w : PageWrites) (i : IsWriting g w) (slice here : List Change) (default : Change)
+module _ (g : Geometry) (w : PageWrites) (i : IsWriting g w) (slice here : List RedoRange) (default : RedoRange)
     (same : slice ≡ w.merged.changes.items) (left : w.next < length w.merged.changes.items) (its : IsFirstPage (take (length slice - w.next) (drop w.next slice)) here) where
   pub nearest : ComesNext w.merged.changes.items w.next here (get_or here 0 default)
   nearest = comes_next w.merged.changes.items slice here w.next default same left its
@@ -203,7 +203,7 @@ module _ (g : Geometry) (w : PageWrites) (i : IsWriting g w) (slice here : List 
   }
 
 -- the change that comes next, and its pages, are these alone
-pub only_next : (w : PageWrites) (c d : Change) (pages others : SegmentPages) → IsNext w c pages → IsNext w d others → (c ≡ d) × (pages ≡ others)
+pub only_next : (w : PageWrites) (c d : RedoRange) (pages others : SegmentPages) → IsNext w c pages → IsNext w d others → (c ≡ d) × (pages ≡ others)
 only_next w c d pages others one two =
     let same : c ≡ d = same_Some c d (sym one.change ∙ two.change) in
-    (same, same_Some pages others (sym one.kept ∙ ap (λ (e : Change). slice_get w.kept.segments.items (e.segment - 1)) same ∙ two.kept))
+    (same, same_Some pages others (sym one.kept ∙ ap (λ (e : RedoRange). slice_get w.kept.segments.items (e.segment - 1)) same ∙ two.kept))

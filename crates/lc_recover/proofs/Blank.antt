@@ -17,7 +17,7 @@ use Rattle.lc_log.proofs.LogLemmas.{at_rest_none, text_at_rest}
 use Rattle.lc_page.specs.Page.{Page as PageOfSlots, chosen_slot, is_open, no_page, page_at, page_in, sequence_of, slot_at, slot_bytes}
 use Rattle.lc_page.specs.declared.slot.Slot.{Slot}
 use Rattle.lc_page.specs.declared.slot.Slot.TheVariants.{First, Second}
-use Rattle.lc_model.specs.Merge.{Page, Store, MergesTo}
+use Rattle.lc_model.specs.Merge.{Page, StoreText, MergesTo}
 use Rattle.lc_model.specs.Recovered.{zero_content, zero_store}
 use Rattle.lc_model.proofs.Unrefused.{zeros-merge}
 use Rattle.lc_recover.specs.Pages.{page_read, pages_read}
@@ -117,4 +117,4 @@ module _ {D : Type 0} (a : Ghosts D) (g : Geometry) (areas : List D) (lengths : 
 
 pub zeros_all_merge : {D : Type 0} (a : Ghosts D) (g : Geometry) (areas : List D) → HaveLengths a g areas → AreZeros a areas → AllMergeTo a g areas (zero_content g) (λ segment. 0)
 zeros_all_merge a g areas lengths blank images are =
-    subst (λ (store : Store). MergesTo store (zero_content g) (λ segment. 0)) (sym (reads_zeros a g areas lengths blank images are)) (zeros-merge g)
+    subst (λ (store : StoreText). MergesTo store (zero_content g) (λ segment. 0)) (sym (reads_zeros a g areas lengths blank images are)) (zeros-merge g)

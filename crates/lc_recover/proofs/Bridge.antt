@@ -23,18 +23,18 @@ use Rattle.lc_record.proofs.ListLemmas.{slice_get_some as get-some, length-count
 use Rattle.lc_log.specs.InPlace.{records_in}
 use Rattle.lc_log.specs.LogText.{IsWhole as IsWholeRecord}
 use Rattle.lc_log.proofs.InPlaceLemmas.{records_are}
-use Rattle.lc_model.specs.Merge.{Page, Store, all_records, IsOutside, AreWithin, MergesTo}
+use Rattle.lc_model.specs.Merge.{Page, StoreText, all_records, IsOutside, AreWithin, MergesTo}
 use Rattle.lc_model.specs.Recovered.{HasByte, IsBehind, IsPartlyRenewed, IsPartlyReset}
 use Rattle.lc_model.specs.Stored.{page_bytes}
 use Rattle.lc_model.proofs.Visible.{log-of, log-known}
-use Rattle.lc_page.specs.declared.entry.Entry.{Entry}
+use Rattle.lc_page.specs.declared.page_entry.PageEntry.{PageEntry}
 use Rattle.lc_recover.proofs.Images.{get-counting, get-segment, in-segment, shape-of, Left, left-of, count-segments, store-shape, page-of, count-logs, log-left}
 use Rattle.lc_model.proofs.Unrefused.{renewed-merges, reset-merges}
 use Rattle.lc_model.proofs.Within.{still-renewed}
 use Rattle.lc_recover.specs.Pages.{page_read, pages_read, kept_page, kept_pages}
 use Rattle.lc_recover.specs.Reads.{AreImages, AreHonest, AllMergeTo, HaveLengths, store_of}
 use Rattle.lc_recover.specs.Shows.{ShowPages, ShowLogs, new_page}
-use Rattle.lc_recover.specs.Stage.{AreTexts, EachPage, IsWhole, IsNew, IsOld}
+use Rattle.lc_recover.specs.RecoveryPhase.{AreTexts, EachPage, IsWhole, IsNew, IsOld}
 use Rattle.lc_recover.specs.declared.segment_pages.SegmentPages.{SegmentPages}
 
 pub same_page : (p q : Page) → p.sequence ≡ q.sequence → p.bytes ≡ q.bytes → p ≡ q
@@ -44,7 +44,7 @@ same_page p q sequence bytes =
 
 -- Pages as they are kept
 
-module _ (g : Geometry) (store : Store) (segments : List SegmentPages) (Such : ℕ → ℕ → Page → Entry → List ℕ → Type 0) (each : EachPage g store segments Such) where
+module _ (g : Geometry) (store : StoreText) (segments : List SegmentPages) (Such : ℕ → ℕ → Page → PageEntry → List ℕ → Type 0) (each : EachPage g store segments Such) where
   pub each-shape : map length store.pages ≡ replicate g.segments g.pages
   each-shape = shape-of g.segments g.pages store.pages each.shape (λ s pages is.
       let known : s < g.segments = omega (arith, slice_get_within store.pages s pages is, each.shape) in
@@ -57,7 +57,7 @@ module _ (g : Geometry) (store : Store) (segments : List SegmentPages) (Such : �
 
 -- What a stop leaves while pages are written
 
-module _ {D : Type 0} (a : Ghosts D) (g : Geometry) (areas : List D) (lengths : HaveLengths a g areas) (honest : AreHonest a areas) (logs : List (List ℕ)) (store : Store) (texts : AreTexts g logs store) (segments : List SegmentPages) where
+module _ {D : Type 0} (a : Ghosts D) (g : Geometry) (areas : List D) (lengths : HaveLengths a g areas) (honest : AreHonest a areas) (logs : List (List ℕ)) (store : StoreText) (texts : AreTexts g logs store) (segments : List SegmentPages) where
   pub logs-same : (content : Content) (numbers : ℕ → ℕ) → ShowPages a g areas store content numbers → (images : List (List ℕ)) (are : AreImages a areas images) → (store_of g images).logs ≡ store.logs
   logs-same content numbers shows images are =
       let count : length (store_of g images).logs ≡ g.nodes = count-logs a g areas images lengths are in
@@ -67,7 +67,7 @@ module _ {D : Type 0} (a : Ghosts D) (g : Geometry) (areas : List D) (lengths : 
       log-left a g areas images lengths are log its within
       ∙ records_are (words_of its.image) (slice_index_or store.logs log []) (shows.logs log its.area within its.area_is (honest log its.area its.area_is) its.image its.is))
 
-  pub partly-renewed : (Such : ℕ → ℕ → Page → Entry → List ℕ → Type 0) (content : Content) (numbers : ℕ → ℕ) → EachPage g store segments Such → ShowPages a g areas store content numbers
+  pub partly-renewed : (Such : ℕ → ℕ → Page → PageEntry → List ℕ → Type 0) (content : Content) (numbers : ℕ → ℕ) → EachPage g store segments Such → ShowPages a g areas store content numbers
       → (images : List (List ℕ)) → AreImages a areas images → IsPartlyRenewed store (store_of g images) content numbers
   partly-renewed Such content numbers each shows images are = record {
     logs = logs-same content numbers shows images are;
@@ -135,13 +135,13 @@ all-contains P [] all x has = absurd (omega (arith, has.1))
 all-contains {A} P (y ∷ ys) all x (zero, within, is) = subst P is all.0
 all-contains P (y ∷ ys) all x (suc k, within, is) = all-contains P ys all.1 x (k, omega (arith, within), is)
 
-past-segment : (store : Store) (segment : ℕ) (r : Record) (range : RangeData) → Contains r.ranges range → range.segment ≡ segment → 1 ≤ length range.bytes → length (segment_of segment store.pages) * 256 ≤ range.offset → IsOutside store r
+past-segment : (store : StoreText) (segment : ℕ) (r : Record) (range : RangeData) → Contains r.ranges range → range.segment ≡ segment → 1 ≤ length range.bytes → length (segment_of segment store.pages) * 256 ≤ range.offset → IsOutside store r
 past-segment store segment r range among of some past =
     let same : length (segment_of range.segment store.pages) * 256 ≡ length (segment_of segment store.pages) * 256 = ap (λ (s : ℕ). length (segment_of s store.pages) * 256) of in
     inr (range, among, omega (arith, past, some, same))
 
 -- a record with a number of a segment has a byte of it
-pub have-bytes : (g : Geometry) (logs : List (List ℕ)) (store : Store) → AreTexts g logs store → AreWithin store → (segment : ℕ) → All (HasByte segment (length (segment_of segment store.pages) * 256)) (all_records store)
+pub have-bytes : (g : Geometry) (logs : List (List ℕ)) (store : StoreText) → AreTexts g logs store → AreWithin store → (segment : ℕ) → All (HasByte segment (length (segment_of segment store.pages) * 256)) (all_records store)
 have-bytes g logs store texts inside segment = λ k d k_in numbered.
     let from = log-of store.logs (get_or (all_records store) k d) (Contains-get_or (all_records store) k d k_in) in
     let node : from.0 < g.nodes = omega (arith, log-known store.logs from.0 (get_or (all_records store) k d) from.1, texts.same_count) in
@@ -164,17 +164,17 @@ same-counting {A} f h first (suc n) same =
     ap (λ (x : A). x ∷ map f (counting (first + 1) n)) here ∙ ap (λ (xs : List A). h first ∷ xs) rest
 
 -- the store's logs, with the pages that are kept
-abbrev pub with_kept : Store → List SegmentPages → Store
+abbrev pub with_kept : StoreText → List SegmentPages → StoreText
 with_kept store segments = record { logs = store.logs; pages = map kept_pages segments }
 
 -- a page is new, or it is as it was and no record is newer
-abbrev IsNewOrOld : Store → Content → (ℕ → ℕ) → ℕ → ℕ → Page → Type 0
+abbrev IsNewOrOld : StoreText → Content → (ℕ → ℕ) → ℕ → ℕ → Page → Type 0
 IsNewOrOld store content numbers segment page text =
     ((text.sequence ≡ numbers segment) × (text.bytes ≡ page_bytes segment page content))
     ⊎ ((slice_get (segment_of segment store.pages) page ≡ Some text) × (IsBehind store segment page text → ⊥))
 
-module _ (g : Geometry) (segments : List SegmentPages) (known : List ℕ) (store : Store) (whole : IsWhole g segments known store) where
-  abbrev Such : ℕ → ℕ → Page → Entry → List ℕ → Type 0
+module _ (g : Geometry) (segments : List SegmentPages) (known : List ℕ) (store : StoreText) (whole : IsWhole g segments known store) where
+  abbrev Such : ℕ → ℕ → Page → PageEntry → List ℕ → Type 0
   Such segment page text entry bytes =
       (IsBehind store segment page text × IsNew whole.content whole.numbers segment page entry bytes)
       ⊎ ((IsBehind store segment page text → ⊥) × IsOld text entry bytes)
@@ -238,7 +238,7 @@ module _ (g : Geometry) (segments : List SegmentPages) (known : List ℕ) (store
 
 -- What a stop leaves while logs are emptied
 
-module _ {D : Type 0} (a : Ghosts D) (g : Geometry) (areas : List D) (lengths : HaveLengths a g areas) (honest : AreHonest a areas) (logs : List (List ℕ)) (store : Store) (texts : AreTexts g logs store) (segments : List SegmentPages) (known : List ℕ)
+module _ {D : Type 0} (a : Ghosts D) (g : Geometry) (areas : List D) (lengths : HaveLengths a g areas) (honest : AreHonest a areas) (logs : List (List ℕ)) (store : StoreText) (texts : AreTexts g logs store) (segments : List SegmentPages) (known : List ℕ)
     (whole : IsWhole g segments known store) (shows : ShowLogs a g areas store segments) (images : List (List ℕ)) (are : AreImages a areas images) where
   one-segment : (s : ℕ) (pages : SegmentPages) (its : Left a g areas images lengths are (g.nodes + s)) → slice_get segments s ≡ Some pages → pages_read g.pages its.image ≡ kept_pages pages
   one-segment s pages its is =
@@ -281,8 +281,8 @@ module _ {D : Type 0} (a : Ghosts D) (g : Geometry) (areas : List D) (lengths : 
 
 -- One result
 
-module _ {D : Type 0} (a : Ghosts D) (g : Geometry) (areas : List D) (logs : List (List ℕ)) (store : Store) (segments : List SegmentPages) where
-  pub show_pages-merge : (Such : ℕ → ℕ → Page → Entry → List ℕ → Type 0) (content : Content) (numbers : ℕ → ℕ) → HaveLengths a g areas → AreHonest a areas → AreTexts g logs store
+module _ {D : Type 0} (a : Ghosts D) (g : Geometry) (areas : List D) (logs : List (List ℕ)) (store : StoreText) (segments : List SegmentPages) where
+  pub show_pages-merge : (Such : ℕ → ℕ → Page → PageEntry → List ℕ → Type 0) (content : Content) (numbers : ℕ → ℕ) → HaveLengths a g areas → AreHonest a areas → AreTexts g logs store
       → EachPage g store segments Such → MergesTo store content numbers → ShowPages a g areas store content numbers → AllMergeTo a g areas content numbers
   show_pages-merge Such content numbers lengths honest texts each merges shows images are =
       renewed-merges store (store_of g images) content numbers merges (partly-renewed a g areas lengths honest logs store texts segments Such content numbers each shows images are)

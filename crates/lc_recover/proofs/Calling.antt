@@ -5,11 +5,11 @@ use Rattle.std.specs.Prelude.{if◌then◌else◌}
 use Rattle.lc_record.specs.declared.geometry.Geometry.{Geometry}
 use Rattle.lc_recover.proofs.Going.{left-writes}
 use Rattle.lc_recover.specs.Recovery.{recovering, Calls}
-use Rattle.lc_recover.specs.Stage.{IsWriting}
+use Rattle.lc_recover.specs.RecoveryPhase.{IsWriting}
 use Rattle.lc_recover.specs.Steps.{steps_of, all_pages, pages_in, writes_done, resets_done}
 use Rattle.lc_recover.specs.declared.log_resets.LogResets.{LogResets}
 use Rattle.lc_recover.specs.declared.page_writes.PageWrites.{PageWrites}
-use Rattle.lc_recover.specs.declared.stage.Stage.TheVariants.{Writing as WritingPages, Resetting}
+use Rattle.lc_recover.specs.declared.recovery_phase.RecoveryPhase.TheVariants.{Writing as WritingPages, Resetting}
 
 -- one call of a log's two is done, or none
 one_of_two : (next : ℕ) (closing : Bool) → (2 * next ≤ 2 * next + (if closing then 1 else 0)) × (2 * next + (if closing then 1 else 0) ≤ 2 * next + 1)

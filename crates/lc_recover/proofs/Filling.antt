@@ -6,7 +6,7 @@ use Rattle.std.proofs.lemmas.List.{length-set}
 use Rattle.lc_disk.specs.Area.{overlaid}
 use Rattle.lc_page.specs.Page.{page_in, text_in}
 use Rattle.lc_page.specs.PageVector.{entry_at, new_entry, no_entry}
-use Rattle.lc_page.specs.declared.entry.Entry.{Entry}
+use Rattle.lc_page.specs.declared.page_entry.PageEntry.{PageEntry}
 use Rattle.lc_recover.proofs.Settles.{entry_other, entry_set, overlaid_whole, page_beside, page_over}
 use Rattle.lc_recover.specs.Pages.{AreKept, bytes_of_page}
 use Rattle.lc_recover.specs.declared.segment_pages.SegmentPages.{SegmentPages}
@@ -43,10 +43,10 @@ pub filled-more : (area : List ℕ) (pages filled : ℕ) (s new : SegmentPages) 
 filled-more area pages filled s new bytes are less texts over long its =
     let room : filled * 256 + 256 ≤ length s.bytes.items = omega (arith, less, are.len) in
     record {
-      count = ap (λ (l : List Entry). length l) texts ∙ length-set s.texts filled (new_entry (text_in area filled)) ∙ are.count;
+      count = ap (λ (l : List PageEntry). length l) texts ∙ length-set s.texts filled (new_entry (text_in area filled)) ∙ are.count;
       len = ap (λ (l : List ℕ). length l) over ∙ overlaid_whole s.bytes.items bytes (filled * 256) (omega (arith, room, long)) ∙ are.len;
       entries = λ page within.
-          ap (λ (l : List Entry). entry_at l page) texts
+          ap (λ (l : List PageEntry). entry_at l page) texts
           ∙ elim (cases_lt page filled) as (λ _. entry_at (slice_set s.texts filled (new_entry (text_in area filled))) page ≡ new_entry (text_in area page)) [
             | inl before ↦
                 let differ : page ≢ filled = λ same. omega (arith, same, before) in

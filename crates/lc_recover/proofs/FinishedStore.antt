@@ -15,15 +15,15 @@ use Rattle.lc_page.specs.Page.{Page as AreaPage, page_in, text_in}
 use Rattle.lc_page.specs.PageVector.{entry_at, entry_text}
 use Rattle.lc_page.specs.declared.page_text.PageText.{PageText}
 use Rattle.lc_page.proofs.StateLemmas.{settled_reads}
-use Rattle.lc_model.specs.Merge.{Page, Store}
+use Rattle.lc_model.specs.Merge.{Page, StoreText}
 use Rattle.lc_model.specs.Recovered.{IsRenewed}
 use Rattle.lc_recover.specs.Pages.{bytes_of_page}
 use Rattle.lc_recover.specs.Reads.{HaveLengths}
 use Rattle.lc_recover.specs.Recovered.{RecoveredPage, RecoveredStore, recovered_pages, no_page, page_of, page_read_of, AreFinished, HasPages, IsMade}
-use Rattle.lc_recover.specs.Stage.{AreasFit, AreTexts, IsWhole, IsEmptied, Rests, RestsAt}
+use Rattle.lc_recover.specs.RecoveryPhase.{AreasFit, AreTexts, IsWhole, IsEmptied, Rests, RestsAt}
 use Rattle.lc_recover.specs.declared.finished.Finished.{Finished}
 use Rattle.lc_recover.specs.declared.segment_pages.SegmentPages.{SegmentPages}
-use Rattle.lc_recover.specs.declared.stage.Stage.TheVariants.{Done}
+use Rattle.lc_recover.specs.declared.recovery_phase.RecoveryPhase.TheVariants.{Done}
 use Rattle.lc_model.proofs.Numbers.{at_most-greatest}
 use Rattle.lc_recover.proofs.Bridge.{same_page}
 use Rattle.lc_recover.proofs.Images.{get-counting, get-segment, in-segment}
@@ -58,7 +58,7 @@ same_area_page p q sequence content =
     ap (λ (n : ℕ). let x : AreaPage = record { sequence = n; content = p.content } in x) sequence
     ∙ ap (λ (l : List ℕ). let x : AreaPage = record { sequence = q.sequence; content = l } in x) content
 
-module _ {D : Type 0} (a : Ghosts D) (g : Geometry) (f : Finished) (areas : List D) (fits : AreasFit a g (Done f) areas) (logs : List (List ℕ)) (store : Store) (texts : AreTexts g logs store) (whole : IsWhole g f.segments.items f.numbers.items store) where
+module _ {D : Type 0} (a : Ghosts D) (g : Geometry) (f : Finished) (areas : List D) (fits : AreasFit a g (Done f) areas) (logs : List (List ℕ)) (store : StoreText) (texts : AreTexts g logs store) (whole : IsWhole g f.segments.items f.numbers.items store) where
   -- what it has made of the store
   abbrev stored : RecoveredStore D
   stored = record { geometry = g; areas = areas; sequences = f.numbers.items; pages = map recovered_pages f.segments.items }
@@ -172,7 +172,7 @@ module _ {D : Type 0} (a : Ghosts D) (g : Geometry) (f : Finished) (areas : List
 
 -- What is kept after the last page
 
-module _ (g : Geometry) (segments : List SegmentPages) (known : List ℕ) (store : Store) (whole : IsWhole g segments known store) where
+module _ (g : Geometry) (segments : List SegmentPages) (known : List ℕ) (store : StoreText) (whole : IsWhole g segments known store) where
   number_is : (s number : ℕ) → slice_get known s ≡ Some number → (s < g.segments) × (number ≡ whole.numbers (s + 1))
   number_is s number is =
       let there : s < g.segments = omega (arith, slice_get_within known s number is, whole.result.count) in

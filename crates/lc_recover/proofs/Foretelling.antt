@@ -12,7 +12,7 @@ use Rattle.lc_record.specs.Newest.{byte_of}
 use Rattle.lc_record.specs.declared.geometry.Geometry.{Geometry}
 use Rattle.lc_record.specs.declared.record.RangeData.{RangeData}
 use Rattle.lc_record.proofs.ListLemmas.{slice_get_some as get-some, slice_get-take as get-take, slice_get-drop as get-drop, Contains-slice_get as contains-at}
-use Rattle.lc_model.specs.Merge.{Page, Store, MergesTo, all_records}
+use Rattle.lc_model.specs.Merge.{Page, StoreText, MergesTo, all_records}
 use Rattle.lc_model.specs.Merging.{byte_at}
 use Rattle.lc_model.specs.Stored.{page_bytes}
 use Rattle.lc_model.proofs.Bytes.{same-items}
@@ -24,19 +24,19 @@ use Rattle.lc_recover.proofs.MergedPage.{one_of_these, page_merged, ranges_stand
 use Rattle.lc_recover.proofs.PagesBehind.{pages-behind}
 use Rattle.lc_recover.proofs.PagesOf.{are_listed}
 use Rattle.lc_recover.specs.Forecast.{IsForecast, IsForetold, IsPageBehind, foretold}
-use Rattle.lc_recover.specs.Kept.{IsKept, IsMerging}
+use Rattle.lc_recover.specs.StoreContents.{IsKept, IsMerging}
 use Rattle.lc_recover.specs.KeptAreas.{IsReadWhole}
 use Rattle.lc_recover.specs.Page.{IsOf, AreAt, AreOfPage, byte_with}
 use Rattle.lc_recover.specs.Pages.{bytes_of_page}
-use Rattle.lc_recover.specs.declared.change.Change.{Change}
-use Rattle.lc_recover.specs.declared.kept.Kept.{Kept}
+use Rattle.lc_recover.specs.declared.redo_range.RedoRange.{RedoRange}
+use Rattle.lc_recover.specs.declared.store_contents.StoreContents.{StoreContents}
 use Rattle.lc_recover.specs.declared.page_writes.PageWrites.{PageWrites}
 use Rattle.lc_recover.specs.declared.read_areas.ReadAreas.{ReadAreas}
 use Rattle.lc_recover.specs.declared.segment_pages.SegmentPages.{SegmentPages}
 
 module _ (g : Geometry) (w : PageWrites) (is : IsForetold g w) where
   pub its-merge : MergesTo (foretold g w).store is.sound.content is.sound.numbers
-  its-merge = subst (λ (s : Store). MergesTo s is.sound.content is.sound.numbers) is.same is.sound.result.merges
+  its-merge = subst (λ (s : StoreText). MergesTo s is.sound.content is.sound.numbers) is.same is.sound.result.merges
 
   pub its-forecast : IsForecast (foretold g w)
   its-forecast = record {
@@ -50,7 +50,7 @@ module _ (g : Geometry) (w : PageWrites) (is : IsForetold g w) where
         ∙ ap is.sound.numbers same;
   }
 
-  module _ (segment page : ℕ) (here : List Change) (of : AreOfPage w.merged.changes.items segment page here) where
+  module _ (segment page : ℕ) (here : List RedoRange) (of : AreOfPage w.merged.changes.items segment page here) where
     -- the page is behind exactly where it has changes
     pub behind-where : (1 ≤ length here) ↔ IsPageBehind (foretold g w).store segment page
     behind-where =
@@ -60,12 +60,12 @@ module _ (g : Geometry) (w : PageWrites) (is : IsForetold g w) where
               let first = get-some here 0 some in
               let its : Contains here first.0 = contains-at here 0 first.0 first.1 in
               let among : Contains w.merged.changes.items first.0 =
-              subst (λ (l : List Change). Contains l first.0) (sym of.whole)
+              subst (λ (l : List RedoRange). Contains l first.0) (sym of.whole)
               (Contains-append_right of.before (here ++ of.behind) first.0 (Contains-append_left here of.behind first.0 its)) in
-              subst (λ (s : Store). IsPageBehind s segment page) is.same
+              subst (λ (s : StoreText). IsPageBehind s segment page) is.same
               ((behind.all segment page).0 (listed.1 (first.0, among, All-contains (IsOf segment page) here first.0 of.of_page its))),
           λ is_behind.
-              let change = listed.0 ((behind.all segment page).1 (subst (λ (s : Store). IsPageBehind s segment page) (sym is.same) is_behind)) in
+              let change = listed.0 ((behind.all segment page).1 (subst (λ (s : StoreText). IsPageBehind s segment page) (sym is.same) is_behind)) in
               let its : Contains here change.0 = one_of_these w.merged.changes.items here segment page change.0 of change.1 change.2 in
               omega (arith, its.1),
         )
@@ -126,13 +126,13 @@ some-where (suc n) = (
 )
 
 -- the page writes of a merge of all that was read
-pub foretold-from : (g : Geometry) (bytes : List (List ℕ)) (r : ReadAreas) (whole : IsReadWhole g bytes r) (kept : Kept) → kept ≡ r.kept → (numbers : Vec ℕ) (changes : Vec Change)
-    → ((store : Store) → IsKept r.kept.logs.items r.kept.segments.items store → IsMerging r.kept.logs.items store (record { numbers = numbers; changes = changes }))
+pub foretold-from : (g : Geometry) (bytes : List (List ℕ)) (r : ReadAreas) (whole : IsReadWhole g bytes r) (kept : StoreContents) → kept ≡ r.kept → (numbers : Vec ℕ) (changes : Vec RedoRange)
+    → ((store : StoreText) → IsKept r.kept.logs.items r.kept.segments.items store → IsMerging r.kept.logs.items store (record { numbers = numbers; changes = changes }))
     → (w : PageWrites) → w ≡ record { kept = kept; merged = record { numbers = numbers; changes = changes }; next = 0; written = 0; current = None } → IsForetold g w
 foretold-from g bytes r whole kept same numbers changes merging w is =
     let from = merged-from g bytes r whole numbers changes merging in
     let own : PageWrites = record { kept = r.kept; merged = record { numbers = numbers; changes = changes }; next = 0; written = 0; current = None } in
-    let is_own : own ≡ w = ap (λ (k : Kept). let v : PageWrites = record { kept = k; merged = record { numbers = numbers; changes = changes }; next = 0; written = 0; current = None } in v) (sym same) ∙ sym is in
+    let is_own : own ≡ w = ap (λ (k : StoreContents). let v : PageWrites = record { kept = k; merged = record { numbers = numbers; changes = changes }; next = 0; written = 0; current = None } in v) (sym same) ∙ sym is in
     subst (λ (v : PageWrites). IsForetold g v) is_own (record {
       sound = from.sound;
       same = from.same_store ∙ sym (same-store g bytes r whole);

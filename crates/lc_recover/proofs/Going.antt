@@ -22,16 +22,16 @@ use Rattle.lc_recover.specs.Reads.{area_count, AllMergeTo, HaveLengths, AreHones
 use Rattle.lc_recover.specs.KeptAreas.{IsReadWhole, read_count}
 use Rattle.lc_recover.specs.Merging.{IsMergedStage}
 use Rattle.lc_recover.specs.Recovery.{Recovering, recovering, IsDone, IsLast, IsGoing, IsMerged, MakesItsCall}
-use Rattle.lc_recover.specs.Stage.{Fits, IsWriting}
+use Rattle.lc_recover.specs.RecoveryPhase.{Fits, IsWriting}
 use Rattle.lc_recover.specs.Steps.{pages_in, all_pages, calls_done, writes_done, resets_done, first_steps, steps_of, IsOver}
-use Rattle.lc_recover.specs.declared.change.Change.{Change}
+use Rattle.lc_recover.specs.declared.redo_range.RedoRange.{RedoRange}
 use Rattle.lc_recover.specs.declared.finished.Finished.{Finished}
 use Rattle.lc_recover.specs.declared.log_resets.LogResets.{LogResets}
 use Rattle.lc_recover.specs.declared.page_writes.PageWrites.{PageWrites}
 use Rattle.lc_recover.specs.declared.read_areas.ReadAreas.{ReadAreas}
 use Rattle.lc_recover.specs.declared.segment_pages.SegmentPages.{SegmentPages}
-use Rattle.lc_recover.specs.declared.stage.Stage.{Stage}
-use Rattle.lc_recover.specs.declared.stage.Stage.TheVariants.{Syncing, Reading, Writing as WritingPages, Resetting, Done}
+use Rattle.lc_recover.specs.declared.recovery_phase.RecoveryPhase.{RecoveryPhase}
+use Rattle.lc_recover.specs.declared.recovery_phase.RecoveryPhase.TheVariants.{Syncing, Reading, Writing as WritingPages, Resetting, Done}
 
 pub same_lists : {A : Type 0} (xs ys : List A) → length xs ≡ length ys → ((k : ℕ) → k < length xs → slice_get xs k ≡ slice_get ys k) → xs ≡ ys
 same_lists [] [] long same = refl
@@ -73,7 +73,7 @@ five-calls : (current : Option Writing) → calls_done current ≤ 5
 five-calls None = omega arith
 five-calls (Some write) = few-calls write
 
-some-pages : (changes : List Change) → 0 < length changes → 0 < length (pages_of changes)
+some-pages : (changes : List RedoRange) → 0 < length changes → 0 < length (pages_of changes)
 some-pages [] some = some
 some-pages (c ∷ cs) some = omega arith
 
@@ -107,14 +107,14 @@ last-reset g next true is = (refl, omega (arith, is))
 last-reset g next false is = absurd (omega (arith, is))
 
 module _ {D : Type 0} (a : Ghosts D) (g : Geometry) (areas : List D) where
-  pub over-done : (stage : Stage) → IsOver stage → IsDone (recovering g areas stage)
+  pub over-done : (stage : RecoveryPhase) → IsOver stage → IsDone (recovering g areas stage)
   over-done (Syncing synced) over = absurd over
   over-done (Reading r) over = absurd over
   over-done (WritingPages w) over = absurd over
   over-done (Resetting r) over = absurd over
   over-done (Done f) over = (f.written, refl, refl)
 
-  pub not_over-done : (stage : Stage) → IsGoing a g stage areas → (IsOver stage → ⊥) → IsDone (recovering g areas stage) → ⊥
+  pub not_over-done : (stage : RecoveryPhase) → IsGoing a g stage areas → (IsOver stage → ⊥) → IsDone (recovering g areas stage) → ⊥
   not_over-done (Syncing synced) going more done = none-some done.0 done.1
   not_over-done (Reading r) going more done = none-some done.0 done.1
   not_over-done (WritingPages w) going more done =
@@ -126,7 +126,7 @@ module _ {D : Type 0} (a : Ghosts D) (g : Geometry) (areas : List D) where
   not_over-done (Done f) going more done = more tt
 
   -- a step after which all is done is the last
-  pub done-last : (stage next : Stage) (news : List D) → IsGoing a g stage areas → ((pages : ℕ) → pages_in stage ≡ Some pages → pages_in next ≡ Some pages) → steps_of g next ≡ steps_of g stage + 1
+  pub done-last : (stage next : RecoveryPhase) (news : List D) → IsGoing a g stage areas → ((pages : ℕ) → pages_in stage ≡ Some pages → pages_in next ≡ Some pages) → steps_of g next ≡ steps_of g stage + 1
       → IsDone (recovering g news next) → IsLast (recovering g areas stage)
   done-last (Syncing synced) next news going pages step done = absurd (omega (arith, going.fits.1, step, done.2, g.some_nodes))
   done-last (Reading r) next news going pages step done = absurd (omega (arith, count-read g going.fits.1.0 r going.fits.1.2, going.fits.1.1.count, step, done.2, g.some_nodes))
@@ -155,14 +155,14 @@ module _ {D : Type 0} (a : Ghosts D) (g : Geometry) (areas : List D) where
       let pages : all_pages w ≡ last.0 = one_item (all_pages w) last.0 last.1 in
       omega (arith, pages, last.2, few-writes g w going.fits.1 w.current refl, g.some_nodes)
 
-  pub not_done : (stage : Stage) → ((f : Finished) → stage ≡ Done f → ⊥) → IsOver stage → ⊥
+  pub not_done : (stage : RecoveryPhase) → ((f : Finished) → stage ≡ Done f → ⊥) → IsOver stage → ⊥
   not_done (Syncing synced) other over = over
   not_done (Reading r) other over = over
   not_done (WritingPages w) other over = over
   not_done (Resetting r) other over = over
   not_done (Done f) other over = other f refl
 
-  pub not_resetting-not_last : (stage : Stage) → IsGoing a g stage areas → ((r : LogResets) → stage ≡ Resetting r → ⊥) → IsLast (recovering g areas stage) → ⊥
+  pub not_resetting-not_last : (stage : RecoveryPhase) → IsGoing a g stage areas → ((r : LogResets) → stage ≡ Resetting r → ⊥) → IsLast (recovering g areas stage) → ⊥
   not_resetting-not_last (Syncing synced) going other last = none-some last.0 last.1
   not_resetting-not_last (Reading r) going other last = none-some last.0 last.1
   not_resetting-not_last (WritingPages w) going other last = writing-not_last w going last
@@ -192,7 +192,7 @@ module _ {D : Type 0} (a : Ghosts D) (g : Geometry) where
   }
 
   -- an area was read
-  pub read-going : (stage : Stage) (areas : List D) (k : ℕ) (old new : D) → slice_get areas k ≡ Some old →
+  pub read-going : (stage : RecoveryPhase) (areas : List D) (k : ℕ) (old new : D) → slice_get areas k ≡ Some old →
       a.honest new ≡ a.honest old → length (a.now new) ≡ length (a.now old) → (a.honest old ≡ true → a.now new ≡ a.now old) → (a.honest old ≡ true → (p : ℕ) → a.dirty new p ≡ a.dirty old p) →
       IsGoing a g stage areas → IsGoing a g stage (slice_set areas k new)
   read-going stage areas k old new is honest len same same_dirty going = record {
@@ -257,7 +257,7 @@ module _ {D : Type 0} (a : Ghosts D) (g : Geometry) where
     }
 
   -- so the merge of what was read is that of what the areas read as
-  pub merged-now : (areas : List D) (stage : Stage) → IsMergedStage g (map a.now areas) stage → IsMerged a (recovering g areas stage)
+  pub merged-now : (areas : List D) (stage : RecoveryPhase) → IsMergedStage g (map a.now areas) stage → IsMerged a (recovering g areas stage)
   merged-now areas stage merged = record {
     content = merged.content;
     numbers = merged.numbers;
@@ -301,7 +301,7 @@ module _ {D : Type 0} (a : Ghosts D) (g : Geometry) where
             (its.segment alive segment pages.0 pages.1).clean
       ]
 
-  pub clean-so_far : (stage : Stage) (areas : List D) → IsGoing a g stage areas → AreHonest a areas → area_count g ≤ steps_of g stage → steps_of g stage ≤ first_steps g → (k : ℕ) (area : D) → slice_get areas k ≡ Some area → IsClean (a.dirty area)
+  pub clean-so_far : (stage : RecoveryPhase) (areas : List D) → IsGoing a g stage areas → AreHonest a areas → area_count g ≤ steps_of g stage → steps_of g stage ≤ first_steps g → (k : ℕ) (area : D) → slice_get areas k ≡ Some area → IsClean (a.dirty area)
   clean-so_far (Syncing synced) areas going honest synced_all before k area is = absurd (omega (arith, synced_all, going.fits.1))
   clean-so_far (Reading r) areas going honest synced_all before k area is =
       let its = going.fits.0.each k area is in
@@ -316,11 +316,11 @@ module _ {D : Type 0} (a : Ghosts D) (g : Geometry) where
 
 -- From a step of the parts to one of the recovery
 
-pub started : {D : Type 0} (g : Geometry) (lent areas : List D) (taken stage : Stage) (view : Recovering D) → lent ≡ areas → taken ≡ stage → recovering g areas stage ≡ view → recovering g lent taken ≡ view
+pub started : {D : Type 0} (g : Geometry) (lent areas : List D) (taken stage : RecoveryPhase) (view : Recovering D) → lent ≡ areas → taken ≡ stage → recovering g areas stage ≡ view → recovering g lent taken ≡ view
 started {D = D} g lent areas taken stage view same_areas same_stage is =
-    ap (λ (l : List D). recovering g l taken) same_areas ∙ ap (λ (s : Stage). recovering g areas s) same_stage ∙ is
+    ap (λ (l : List D). recovering g l taken) same_areas ∙ ap (λ (s : RecoveryPhase). recovering g areas s) same_stage ∙ is
 
-pub merges-carried : {D : Type 0} (a : Ghosts D) (g : Geometry) (olds news after : List D) (stage : Stage) (view : Recovering D) → recovering g olds stage ≡ view → after ≡ news → (content : Content) (numbers : ℕ → ℕ) →
+pub merges-carried : {D : Type 0} (a : Ghosts D) (g : Geometry) (olds news after : List D) (stage : RecoveryPhase) (view : Recovering D) → recovering g olds stage ≡ view → after ≡ news → (content : Content) (numbers : ℕ → ℕ) →
     (AreHonest a news → AllMergeTo a g olds content numbers → AllMergeTo a g news content numbers) →
     AreHonest a after → AllMergeTo a view.geometry view.areas content numbers → AllMergeTo a view.geometry after content numbers
 merges-carried {D = D} a g olds news after stage view start same content numbers keeps honest was =
@@ -329,12 +329,12 @@ merges-carried {D = D} a g olds news after stage view start same content numbers
     (keeps (subst (λ (l : List D). AreHonest a l) same honest)
     (subst (λ (r : Recovering D). AllMergeTo a r.geometry r.areas content numbers) (sym start) was)))
 
-pub call-carried : {D : Type 0} (a : Ghosts D) (g : Geometry) (olds news after : List D) (stage : Stage) (view : Recovering D) (ok : Bool) → recovering g olds stage ≡ view → after ≡ news →
+pub call-carried : {D : Type 0} (a : Ghosts D) (g : Geometry) (olds news after : List D) (stage : RecoveryPhase) (view : Recovering D) (ok : Bool) → recovering g olds stage ≡ view → after ≡ news →
     MakesItsCall a (recovering g olds stage) news ok → MakesItsCall a view after ok
 call-carried {D = D} a g olds news after stage view ok start same call =
     subst (λ (l : List D). MakesItsCall a view l ok) (sym same) (subst (λ (r : Recovering D). MakesItsCall a r news ok) start call)
 
-pub reads-carried : {D : Type 0} (a : Ghosts D) (g : Geometry) (olds news after : List D) (stage : Stage) (view : Recovering D) → recovering g olds stage ≡ view → after ≡ news →
+pub reads-carried : {D : Type 0} (a : Ghosts D) (g : Geometry) (olds news after : List D) (stage : RecoveryPhase) (view : Recovering D) → recovering g olds stage ≡ view → after ≡ news →
     (steps_of g stage + 1 < first_steps g → AreHonest a olds → map a.now news ≡ map a.now olds) →
     view.steps + 1 < first_steps view.geometry → AreHonest a view.areas → map a.now after ≡ map a.now view.areas
 reads-carried {D = D} a g olds news after stage view start same reads =

@@ -8,11 +8,11 @@ use Rattle.lc_record.specs.Content.{Content}
 use Rattle.lc_record.specs.declared.geometry.Geometry.{Geometry}
 use Rattle.lc_recover.specs.Reads.{AreHonest, AllMergeTo}
 use Rattle.lc_recover.specs.Shows.{ShowPages, ShowLogs}
-use Rattle.lc_recover.specs.Stage.{AreasFit, OneCall, IsResetting, IsWriting, AsFarAs, IsEmptied, LogIs}
+use Rattle.lc_recover.specs.RecoveryPhase.{AreasFit, OneCall, IsResetting, IsWriting, AsFarAs, IsEmptied, LogIs}
 use Rattle.lc_recover.specs.declared.finished.Finished.{Finished}
 use Rattle.lc_recover.specs.declared.log_resets.LogResets.{LogResets}
 use Rattle.lc_recover.specs.declared.page_writes.PageWrites.{PageWrites}
-use Rattle.lc_recover.specs.declared.stage.Stage.TheVariants.{Syncing, Writing as WritingPages, Resetting, Done}
+use Rattle.lc_recover.specs.declared.recovery_phase.RecoveryPhase.TheVariants.{Syncing, Writing as WritingPages, Resetting, Done}
 use Rattle.lc_recover.proofs.AreaLemmas.{set-get, set-others}
 use Rattle.lc_recover.proofs.Bridge.{show_logs-merge, show_pages-merge}
 use Rattle.lc_recover.proofs.Images.{same-result}

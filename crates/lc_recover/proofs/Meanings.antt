@@ -15,10 +15,10 @@ use Rattle.lc_record.specs.declared.record.Lock.{Lock}
 use Rattle.lc_record.specs.declared.record.Record.{Record}
 use Rattle.lc_model.proofs.Numbers.{greatest-all}
 use Rattle.lc_log.specs.InPlace.{records_in}
-use Rattle.lc_model.specs.Merge.{Page, Store, greatest, all_records, page_number, record_number, has_number, how_many, IsTwice, HasGap, IsLeastPair, AreOwn, AreWithin, AreOnce}
+use Rattle.lc_model.specs.Merge.{Page, StoreText, greatest, all_records, page_number, record_number, has_number, how_many, IsTwice, HasGap, IsLeastPair, AreOwn, AreWithin, AreOnce}
 use Rattle.lc_model.proofs.Visible.{log-of, contains-count}
 use Rattle.lc_log.proofs.InPlaceLemmas.{records_are}
-use Rattle.lc_recover.specs.Kept.{IsKept}
+use Rattle.lc_recover.specs.StoreContents.{IsKept}
 use Rattle.lc_recover.specs.Fault.{IsRefusal}
 use Rattle.lc_recover.specs.Pages.{kept_pages}
 use Rattle.lc_recover.specs.Locks.{number_of, numbers_of, numbers_in, is_number, times, StandsTwice, count_of, greatest_kept, IsMissing, IsCount, IsNumbering}
@@ -117,7 +117,7 @@ page-count (x ∷ xs) (suc i) some within =
     ∙ ap (λ (l : List Page). greatest (map (λ (p : Page). p.sequence) l)) (sym (segment-at kept_pages (x ∷ xs) i its (slice_get-get_or (x ∷ xs) i x inside)))
 
 module _ (logs : List (List ℕ)) (segments : List SegmentPages) where
-  abbrev its_store : Store
+  abbrev its_store : StoreText
   its_store = store_of logs segments
 
   in-log : (r : Record) → Contains (all_records its_store) r → (k : ℕ) × Contains (get_or (map records_in logs) k []) r
@@ -285,7 +285,7 @@ list-same d (x ∷ xs) [] long same = absurd (omega (arith, long))
 list-same {A = A} d (x ∷ xs) (y ∷ ys) long same =
     ap₂ (λ (z : A) (zs : List A). z ∷ zs) (same 0 (omega arith)) (list-same d xs ys (omega (arith, long)) (λ k within. same (suc k) (omega arith)))
 
-pub kept-store : (logs : List (List ℕ)) (segments : List SegmentPages) (store : Store) → IsKept logs segments store → store_of logs segments ≡ store
+pub kept-store : (logs : List (List ℕ)) (segments : List SegmentPages) (store : StoreText) → IsKept logs segments store → store_of logs segments ≡ store
 kept-store logs segments store kept =
     let logs_are : map records_in logs ≡ store.logs =
     list-same [] (map records_in logs) store.logs (length-map logs records_in ∙ sym kept.count)

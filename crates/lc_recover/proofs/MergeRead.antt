@@ -21,19 +21,19 @@ use Rattle.lc_log.specs.LogText.{IsLogText, IsWhole}
 use Rattle.lc_log.proofs.InPlaceLemmas.{records_text}
 use Rattle.lc_page.specs.Page.{page_in, page_at, present_slot, slot_bytes}
 use Rattle.lc_page.specs.PageVector.{entry_at}
-use Rattle.lc_page.specs.declared.entry.Entry.{Entry}
+use Rattle.lc_page.specs.declared.page_entry.PageEntry.{PageEntry}
 use Rattle.lc_page.specs.declared.slot.Slot.{Slot}
 use Rattle.lc_page.specs.declared.slot.Slot.TheVariants.{First, Second}
 use Rattle.lc_page.proofs.PageLemmas.{first_small, second_small}
-use Rattle.lc_model.specs.Merge.{Page, Store, all_records, page_number, record_number, MergesTo}
+use Rattle.lc_model.specs.Merge.{Page, StoreText, all_records, page_number, record_number, MergesTo}
 use Rattle.lc_model.proofs.Numbers.{greatest-all, greatest-at_most}
 use Rattle.lc_model.proofs.Visible.{log-of, log-known}
-use Rattle.lc_recover.specs.Kept.{IsKept, IsMerging}
+use Rattle.lc_recover.specs.StoreContents.{IsKept, IsMerging}
 use Rattle.lc_recover.specs.KeptAreas.{IsRead}
 use Rattle.lc_recover.specs.Pages.{AreKept, page_read, pages_read, kept_page, kept_pages, bytes_of_page}
 use Rattle.lc_recover.specs.Reads.{area_count, store_of}
-use Rattle.lc_recover.specs.Stage.{EachPage, AreTexts, IsResult, AsFarAs, IsWriting}
-use Rattle.lc_recover.specs.declared.kept.Kept.{Kept}
+use Rattle.lc_recover.specs.RecoveryPhase.{EachPage, AreTexts, IsResult, AsFarAs, IsWriting}
+use Rattle.lc_recover.specs.declared.store_contents.StoreContents.{StoreContents}
 use Rattle.lc_recover.specs.declared.merged.Merged.{Merged}
 use Rattle.lc_recover.specs.declared.page_writes.PageWrites.{PageWrites}
 use Rattle.lc_recover.specs.declared.segment_pages.SegmentPages.{SegmentPages}
@@ -60,7 +60,7 @@ map-counting f h first (suc n) same =
 kept-as-read : (area : List ℕ) (n : ℕ) (s : SegmentPages) → AreKept area n s → pages_read n area ≡ kept_pages s
 kept-as-read area n s kept =
     map-counting (page_read area) (kept_page s) 0 n (λ p less.
-    ap (λ (e : Entry). record { sequence = e.stable; bytes = (page_in area p).content }) (sym (kept.entries p (omega (arith, less))))
+    ap (λ (e : PageEntry). record { sequence = e.stable; bytes = (page_in area p).content }) (sym (kept.entries p (omega (arith, less))))
     ∙ ap (λ (l : List ℕ). record { sequence = (entry_at s.texts p).stable; bytes = l }) (sym (kept.bytes p (omega (arith, less)))))
     ∙ ap (λ (m : ℕ). map (kept_page s) (counting 0 m)) (sym kept.count)
 
@@ -68,7 +68,7 @@ page-len : (n page : ℕ) (s : SegmentPages) → page < n → length s.bytes.ite
 page-len n page s within len =
     length-take-le 256 (drop (page * 256) s.bytes.items) (omega (arith, within, len, length-drop (page * 256) s.bytes.items))
 
-module _ (g : Geometry) (read : List (List ℕ)) (kept : Kept) (is : IsRead g read kept) (count : length read ≡ area_count g) where
+module _ (g : Geometry) (read : List (List ℕ)) (kept : StoreContents) (is : IsRead g read kept) (count : length read ≡ area_count g) where
   few : length (take g.nodes read) ≡ g.nodes
   few = length-take-le g.nodes read (omega (arith, count))
 
@@ -118,7 +118,7 @@ module _ (g : Geometry) (read : List (List ℕ)) (kept : Kept) (is : IsRead g re
 
     same_page : (page : ℕ) → page < g.pages → page_read its_area.0 page ≡ kept_page pages page
     same_page page within =
-        ap (λ (e : Entry). record { sequence = e.stable; bytes = (page_in its_area.0 page).content }) (sym (its-pages.entries page within))
+        ap (λ (e : PageEntry). record { sequence = e.stable; bytes = (page_in its_area.0 page).content }) (sym (its-pages.entries page within))
         ∙ ap (λ (l : List ℕ). record { sequence = (entry_at pages.texts page).stable; bytes = l }) (sym (its-pages.bytes page within))
 
     pub its-page : (page : ℕ) (text : Page) → slice_get (segment_of (s + 1) (store_of g read).pages) page ≡ Some text → (page < g.pages) × (text ≡ kept_page pages page)
@@ -145,7 +145,7 @@ module _ (g : Geometry) (read : List (List ℕ)) (kept : Kept) (is : IsRead g re
       let its = its-pages at.before pages.0 pages.1 in
       ap (λ (t : Page). length t.bytes) here.1 ∙ page-len g.pages page pages.0 here.0 its.len
 
-pub merged-result : (logs : List (List ℕ)) (store : Store) (merged : Merged) → IsMerging logs store merged →
+pub merged-result : (logs : List (List ℕ)) (store : StoreText) (merged : Merged) → IsMerging logs store merged →
     ((segment page : ℕ) (text : Page) → slice_get (segment_of segment store.pages) page ≡ Some text → length text.bytes ≡ 256) →
     (content : Content) × (numbers : ℕ → ℕ) × MergesTo store content numbers
 merged-result logs store merged is long =
@@ -234,7 +234,7 @@ module _ (g : Geometry) (read : List (List ℕ)) (w : PageWrites) (is : IsRead g
         inr (
           (λ changed. omega (arith, changed.1.1)),
           record {
-            free = ap (λ (e : Entry). e.uncommitted) (kept.entries page here.0);
+            free = ap (λ (e : PageEntry). e.uncommitted) (kept.entries page here.0);
             sequence = sym (ap (λ (t : Page). t.sequence) here.1);
             same = sym (ap (λ (t : Page). t.bytes) here.1);
           },

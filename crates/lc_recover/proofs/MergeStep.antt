@@ -3,13 +3,13 @@ use Rattle.std.proofs.Common.{ℕ, ◌≤◌, None, List, length, All, refl, ari
 use Rattle.std.specs.Global.{Vec}
 use Rattle.std.proofs.lemmas.Option.{slice_get-get_or}
 use Rattle.lc_record.specs.declared.geometry.Geometry.{Geometry}
-use Rattle.lc_model.specs.Merge.{Store}
-use Rattle.lc_recover.specs.Kept.{HasNewer, IsFaultless, IsKept, IsMerging}
+use Rattle.lc_model.specs.Merge.{StoreText}
+use Rattle.lc_recover.specs.StoreContents.{HasNewer, IsFaultless, IsKept, IsMerging}
 use Rattle.lc_recover.specs.KeptAreas.{IsReadWhole}
 use Rattle.lc_recover.specs.Merging.{IsMergedFrom}
 use Rattle.lc_recover.specs.Reads.{store_of}
 use Rattle.lc_recover.specs.Recovery.{HasPageToWrite}
-use Rattle.lc_recover.specs.declared.change.Change.{Change}
+use Rattle.lc_recover.specs.declared.redo_range.RedoRange.{RedoRange}
 use Rattle.lc_recover.specs.declared.page_writes.PageWrites.{PageWrites}
 use Rattle.lc_recover.specs.declared.read_areas.ReadAreas.{ReadAreas}
 use Rattle.lc_recover.specs.declared.segment_pages.SegmentPages.{SegmentPages}
@@ -34,8 +34,8 @@ module _ (g : Geometry) (areas : List (List ℕ)) (r : ReadAreas) (whole : IsRea
   pub to-write : (IsFaultless (store_of g areas) × HasNewer (store_of g areas)) → HasPageToWrite (store_of g areas)
   to-write its = page-to-write (store_of g areas) its.0 (long-pages g areas r.kept whole.kept whole.count) its.1
 
-  module _ (numbers : Vec ℕ) (changes : Vec Change)
-      (merging : (store : Store) → IsKept r.kept.logs.items r.kept.segments.items store → IsMerging r.kept.logs.items store (record { numbers = numbers; changes = changes })) where
+  module _ (numbers : Vec ℕ) (changes : Vec RedoRange)
+      (merging : (store : StoreText) → IsKept r.kept.logs.items r.kept.segments.items store → IsMerging r.kept.logs.items store (record { numbers = numbers; changes = changes })) where
     pub merged-from : IsMergedFrom g areas (record { kept = r.kept; merged = record { numbers = numbers; changes = changes }; next = 0; written = 0; current = None })
     unfolding merged-writing
     merged-from =

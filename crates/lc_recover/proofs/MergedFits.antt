@@ -12,19 +12,19 @@ use Rattle.lc_page.specs.PageVector.{entry_text}
 use Rattle.lc_page.specs.PageWrite.{IsSettled}
 use Rattle.lc_page.specs.declared.page_text.PageText.{PageText}
 use Rattle.lc_page.proofs.StateLemmas.{clean_settled}
-use Rattle.lc_model.specs.Merge.{Store, MergesTo}
+use Rattle.lc_model.specs.Merge.{StoreText, MergesTo}
 use Rattle.lc_recover.specs.Merging.{IsMergedFrom, IsMergedStage}
 use Rattle.lc_recover.specs.Page.{pages_of}
 use Rattle.lc_recover.specs.Pages.{AreKept}
 use Rattle.lc_recover.specs.Reads.{area_count}
 use Rattle.lc_recover.specs.Recovery.{AreBehind}
-use Rattle.lc_recover.specs.Stage.{AreasFit, HasItsPages, HasItsWords, ReadsWords, RestsOrWrites}
+use Rattle.lc_recover.specs.RecoveryPhase.{AreasFit, HasItsPages, HasItsWords, ReadsWords, RestsOrWrites}
 use Rattle.lc_recover.specs.Steps.{all_pages, pages_left}
-use Rattle.lc_recover.specs.declared.kept.Kept.{Kept}
+use Rattle.lc_recover.specs.declared.store_contents.StoreContents.{StoreContents}
 use Rattle.lc_recover.specs.declared.page_writes.PageWrites.{PageWrites}
 use Rattle.lc_recover.specs.declared.read_areas.ReadAreas.{ReadAreas}
 use Rattle.lc_recover.specs.declared.segment_pages.SegmentPages.{SegmentPages}
-use Rattle.lc_recover.specs.declared.stage.Stage.TheVariants.{Reading, Writing as WritingPages}
+use Rattle.lc_recover.specs.declared.recovery_phase.RecoveryPhase.TheVariants.{Reading, Writing as WritingPages}
 use Rattle.lc_recover.proofs.Images.{in-segment}
 use Rattle.lc_recover.proofs.MergeRead.{kept-pages-are}
 use Rattle.lc_recover.proofs.PagesBehind.{pages-behind, few-pages}
@@ -41,10 +41,10 @@ module _ (g : Geometry) (read : List (List ℕ)) (w : PageWrites) (from : IsMerg
   merged-stage count = record {
     content = from.sound.content;
     numbers = from.sound.numbers;
-    merges = subst (λ (store : Store). MergesTo store from.sound.content from.sound.numbers) from.same_store from.sound.result.merges;
+    merges = subst (λ (store : StoreText). MergesTo store from.sound.content from.sound.numbers) from.same_store from.sound.result.merges;
     pages = ap Some all-left;
     kept = sym (kept-pages-are g read w.kept from.kept count);
-    behind = subst (λ (store : Store). AreBehind store (pages_left (WritingPages w))) from.same_store
+    behind = subst (λ (store : StoreText). AreBehind store (pages_left (WritingPages w))) from.same_store
         (subst (λ (n : ℕ). AreBehind from.sound.store (pages_of (drop n w.merged.changes.items))) (sym from.next) (pages-behind w.kept.logs.items from.sound.store w.merged from.sound.merging));
   }
 
@@ -67,12 +67,12 @@ module _ (g : Geometry) (read : List (List ℕ)) (w : PageWrites) (from : IsMerg
         record {
           clean = its.clean;
           words_are = sym (get_or_from_slice_get w.kept.logs.items log words.0 [] words.1
-              ∙ its.words_are words.0 (ap (λ (k : Kept). slice_get k.logs.items log) (sym same) ∙ words.1));
+              ∙ its.words_are words.0 (ap (λ (k : StoreContents). slice_get k.logs.items log) (sym same) ∙ words.1));
         }
 
     its-rests : (s : ℕ) (area : D) (pages : SegmentPages) → HasItsPages a g r.kept.segments.items s area → slice_get w.kept.segments.items s ≡ Some pages → RestsOrWrites a g w s pages area
     its-rests s area pages its pages_is =
-        let kept : AreKept (a.now area) g.pages pages = its.pages_are pages (ap (λ (k : Kept). slice_get k.segments.items s) (sym same) ∙ pages_is) in
+        let kept : AreKept (a.now area) g.pages pages = its.pages_are pages (ap (λ (k : StoreContents). slice_get k.segments.items s) (sym same) ∙ pages_is) in
         record {
           clean = λ none. its.clean;
           rests = λ page within none. record {

@@ -10,11 +10,11 @@ use Rattle.lc_record.specs.Newest.{number_or_zero, byte_in, byte_of, has_byte, I
 use Rattle.lc_record.specs.declared.record.Record.{Record}
 use Rattle.lc_record.specs.declared.record.RangeData.{RangeData}
 use Rattle.lc_record.proofs.ListLemmas.{option_or-some as or_some, All-append_right as all_behind, All-append_left as all_front}
-use Rattle.lc_model.specs.Merge.{Page, Store, all_records}
+use Rattle.lc_model.specs.Merge.{Page, StoreText, all_records}
 use Rattle.lc_model.proofs.Visible.{in-logs, log-known}
-use Rattle.lc_recover.specs.Kept.{Names, Reaches, IsChange, IsBefore, AreAscending, IsIndex}
+use Rattle.lc_recover.specs.StoreContents.{Names, Reaches, IsChange, IsBefore, AreAscending, IsIndex}
 use Rattle.lc_recover.specs.Page.{IsOf, IsOfAnother, AreAt, byte_with, AreOfPage, PagesMerge, RangesStand}
-use Rattle.lc_recover.specs.declared.change.Change.{Change}
+use Rattle.lc_recover.specs.declared.redo_range.RedoRange.{RedoRange}
 use Rattle.lc_recover.proofs.RangeBytes.{byte_in-some, one_range, some_of}
 
 abbrev number : ℕ → Record → ℕ
@@ -33,12 +33,12 @@ or_none o p none = ap (λ (q : Option ℕ). option_or q p) none
 -- One change
 
 -- the range of a change has a byte where the change reaches
-pub reaches : (logs : List (List ℕ)) (c : Change) (range : RangeData) (segment place : ℕ) → Names logs c range → c.segment ≡ segment → Reaches c place → is_some (byte_in segment place range) ≡ true
+pub reaches : (logs : List (List ℕ)) (c : RedoRange) (range : RangeData) (segment place : ℕ) → Names logs c range → c.segment ≡ segment → Reaches c place → is_some (byte_in segment place range) ≡ true
 reaches logs c range segment place names of has =
     byte_in-some segment place range (names.segment ∙ of) (omega (arith, names.offset, has.0)) (omega (arith, names.offset, names.len, has.1))
 
 -- its record has a byte for the place, under a number above the page's sequence
-pub change_has : (logs : List (List ℕ)) (store : Store) (c : Change) (change : IsChange logs store c) → IsTrue (has_byte c.segment (c.page * 256 + change.offset) change.text.sequence change.changing)
+pub change_has : (logs : List (List ℕ)) (store : StoreText) (c : RedoRange) (change : IsChange logs store c) → IsTrue (has_byte c.segment (c.page * 256 + change.offset) change.text.sequence change.changing)
 change_has logs store c change =
     let place : ℕ = c.page * 256 + change.offset in
     let above : change.text.sequence < number c.segment change.changing = omega (arith, change.newer, change.number) in
@@ -47,7 +47,7 @@ change_has logs store c change =
     (lt-ltb change.text.sequence (number c.segment change.changing) above)
 
 -- a change is of one range
-one_named : (logs : List (List ℕ)) (c : Change) (q r : RangeData) → Names logs c q → Names logs c r → q ≡ r
+one_named : (logs : List (List ℕ)) (c : RedoRange) (q r : RangeData) → Names logs c q → Names logs c r → q ≡ r
 one_named logs c q r one other =
     ap (λ (s : ℕ). record { segment = s; offset = q.offset; bytes = q.bytes }) (one.segment ∙ sym other.segment)
     ∙ ap (λ (o : ℕ). record { segment = r.segment; offset = o; bytes = q.bytes }) (one.offset ∙ sym other.offset)
@@ -55,16 +55,16 @@ one_named logs c q r one other =
 
 -- The last of them
 
-abbrev IsNoMore : Change → Change → Type 0
+abbrev IsNoMore : RedoRange → RedoRange → Type 0
 IsNoMore c d = c.seq ≤ d.seq
 
-abbrev AreRising : List Change → Type 0
+abbrev AreRising : List RedoRange → Type 0
 AreRising [] = Unit {0}
 AreRising (c ∷ cs) = All (IsNoMore c) cs × AreRising cs
 
 -- the last of these whose range has a byte for the place
-record IsLast (logs : List (List ℕ)) (segment place : ℕ) (cs : List Change) (rs : List RangeData) : Type 0 where
-  change : Change
+record IsLast (logs : List (List ℕ)) (segment place : ℕ) (cs : List RedoRange) (rs : List RangeData) : Type 0 where
+  change : RedoRange
   range : RangeData
   among : Contains cs change
   names : Names logs change range
@@ -72,7 +72,7 @@ record IsLast (logs : List (List ℕ)) (segment place : ℕ) (cs : List Change) 
   is : byte_of segment place rs ≡ byte_in segment place range
   greatest : All (λ d. Reaches d place → d.seq ≤ change.seq) cs
 
-last_found : (logs : List (List ℕ)) (segment place : ℕ) (cs : List Change) (rs : List RangeData) → AreRising cs → AreAt logs cs rs → All (λ c. c.segment ≡ segment) cs
+last_found : (logs : List (List ℕ)) (segment place : ℕ) (cs : List RedoRange) (rs : List RangeData) → AreRising cs → AreAt logs cs rs → All (λ c. c.segment ≡ segment) cs
     → (All (λ c. Reaches c place → ⊥) cs × (byte_of segment place rs ≡ None)) ⊎ IsLast logs segment place cs rs
 last_found logs segment place [] [] rising at of = inl (All-nil (λ c. Reaches c place → ⊥), refl)
 last_found logs segment place [] (r ∷ rs) rising at of = absurd at
@@ -115,7 +115,7 @@ last_found logs segment place (c ∷ cs) (r ∷ rs) rising at of =
 
 -- The ranges of changes
 
-pub some_ranges : (logs : List (List ℕ)) (store : Store) (cs : List Change) → All (IsChange logs store) cs → (ranges : List RangeData) × AreAt logs cs ranges
+pub some_ranges : (logs : List (List ℕ)) (store : StoreText) (cs : List RedoRange) → All (IsChange logs store) cs → (ranges : List RangeData) × AreAt logs cs ranges
 some_ranges logs store [] sound = ([], tt)
 some_ranges logs store (c ∷ cs) sound =
     let one = All-head (IsChange logs store) c cs sound in
@@ -125,20 +125,20 @@ some_ranges logs store (c ∷ cs) sound =
 -- Changes of one page
 
 module _ (segment page : ℕ) where
-  by_seq : (c d : Change) → IsOf segment page c → IsOf segment page d → IsBefore c d → c.seq ≤ d.seq
+  by_seq : (c d : RedoRange) → IsOf segment page c → IsOf segment page d → IsBefore c d → c.seq ≤ d.seq
   by_seq c d one other before =
       elim before [
         | inl less ↦ omega (arith, less, one.0, other.0)
         | inr alike ↦ (elim alike.1 [ inl less ↦ omega (arith, less, one.1, other.1) | inr last ↦ last.1 ])
       ]
 
-  later_seqs : (c : Change) (cs : List Change) → IsOf segment page c → All (IsOf segment page) cs → All (IsBefore c) cs → All (IsNoMore c) cs
+  later_seqs : (c : RedoRange) (cs : List RedoRange) → IsOf segment page c → All (IsOf segment page) cs → All (IsBefore c) cs → All (IsNoMore c) cs
   later_seqs c [] of ofs before = All-nil (IsNoMore c)
   later_seqs c (d ∷ cs) of ofs before =
       All-cons (IsNoMore c) d cs (by_seq c d of (All-head (IsOf segment page) d cs ofs) (All-head (IsBefore c) d cs before))
       (later_seqs c cs of (All-tail (IsOf segment page) d cs ofs) (All-tail (IsBefore c) d cs before))
 
-  rising : (cs : List Change) → All (IsOf segment page) cs → AreAscending cs → AreRising cs
+  rising : (cs : List RedoRange) → All (IsOf segment page) cs → AreAscending cs → AreRising cs
   rising [] ofs ascending = tt
   rising (c ∷ cs) ofs ascending = (
     later_seqs c cs (All-head (IsOf segment page) c cs ofs) (All-tail (IsOf segment page) c cs ofs) ascending.0,
@@ -147,22 +147,22 @@ module _ (segment page : ℕ) where
 
 -- The changes of the page, among all
 
-pub ascending_front : (cs ds : List Change) → AreAscending (cs ++ ds) → AreAscending cs
+pub ascending_front : (cs ds : List RedoRange) → AreAscending (cs ++ ds) → AreAscending cs
 ascending_front [] ds ascending = tt
 ascending_front (c ∷ cs) ds ascending = (all_front (IsBefore c) cs ds ascending.0, ascending_front cs ds ascending.1)
 
-pub ascending_behind : (cs ds : List Change) → AreAscending (cs ++ ds) → AreAscending ds
+pub ascending_behind : (cs ds : List RedoRange) → AreAscending (cs ++ ds) → AreAscending ds
 ascending_behind [] ds ascending = ascending
 ascending_behind (c ∷ cs) ds ascending = ascending_behind cs ds ascending.1
 
-pub sound_here : (logs : List (List ℕ)) (store : Store) (changes here : List Change) (segment page : ℕ) → IsIndex logs store changes → AreOfPage changes segment page here → All (IsChange logs store) here
+pub sound_here : (logs : List (List ℕ)) (store : StoreText) (changes here : List RedoRange) (segment page : ℕ) → IsIndex logs store changes → AreOfPage changes segment page here → All (IsChange logs store) here
 sound_here logs store changes here segment page index of =
     all_front (IsChange logs store) here of.behind (all_behind (IsChange logs store) of.before (here ++ of.behind) (subst (All (IsChange logs store)) of.whole index.sound))
 
 -- a change of the page is one of these
-pub one_of_these : (changes here : List Change) (segment page : ℕ) (c : Change) → AreOfPage changes segment page here → Contains changes c → IsOf segment page c → Contains here c
+pub one_of_these : (changes here : List RedoRange) (segment page : ℕ) (c : RedoRange) → AreOfPage changes segment page here → Contains changes c → IsOf segment page c → Contains here c
 one_of_these changes here segment page c of has of_page =
-    elim (Contains-append_cases of.before (here ++ of.behind) c (subst (λ (cs : List Change). Contains cs c) of.whole has)) [
+    elim (Contains-append_cases of.before (here ++ of.behind) c (subst (λ (cs : List RedoRange). Contains cs c) of.whole has)) [
       | inl before ↦ absurd (All-contains (IsOfAnother segment page) of.before c of.none_before before of_page)
       | inr others ↦
           (elim (Contains-append_cases here of.behind c others) [
@@ -171,7 +171,7 @@ one_of_these changes here segment page c of has of_page =
           ])
     ]
 
-module _ (logs : List (List ℕ)) (store : Store) (changes here : List Change) (segment page : ℕ) (text : Page) (ranges : List RangeData)
+module _ (logs : List (List ℕ)) (store : StoreText) (changes here : List RedoRange) (segment page : ℕ) (text : Page) (ranges : List RangeData)
     (index : IsIndex logs store changes) (of : AreOfPage changes segment page here)
     (text_is : slice_get (segment_of segment store.pages) page ≡ Some text) (at : AreAt logs here ranges) (offset : ℕ) (within : offset < 256) where
   abbrev all : List Record
@@ -181,7 +181,7 @@ module _ (logs : List (List ℕ)) (store : Store) (changes here : List Change) (
   place = page * 256 + offset
 
   -- of a record with a byte for the place there is a change
-  is_put : (q : Record) → Contains all q → has_byte segment place text.sequence q ≡ true → (c : Change) × Contains here c × (c.seq ≡ number segment q) × Reaches c place
+  is_put : (q : Record) → Contains all q → has_byte segment place text.sequence q ≡ true → (c : RedoRange) × Contains here c × (c.seq ≡ number segment q) × Reaches c place
   is_put q among has =
       let named = index.whole segment page offset text q text_is among within has in
       (named.0, one_of_these changes here segment page named.0 of named.1 (named.2, named.3), named.4, named.5)
@@ -204,7 +204,7 @@ module _ (logs : List (List ℕ)) (store : Store) (changes here : List Change) (
 
   newest : (last : IsLast logs segment place here ranges) → Newest last
   newest last =
-      let c : Change = last.change in
+      let c : RedoRange = last.change in
       let own : IsChange logs store last.change = All-contains (IsChange logs store) here last.change (sound_here logs store changes here segment page index of) last.among in
       let of_page : IsOf segment page last.change = All-contains (IsOf segment page) here last.change of.of_page last.among in
       let same : last.range ≡ own.range = one_named logs c last.range own.range last.names own.names in

@@ -9,7 +9,7 @@ use Rattle.lc_record.proofs.ListLemmas.{slice_get_some as get-some, slice_get-ma
 use Rattle.lc_log.specs.InPlace.{records_in}
 use Rattle.lc_log.specs.LogText.{IsLogText}
 use Rattle.lc_log.proofs.InPlaceLemmas.{records_are, records_text}
-use Rattle.lc_model.specs.Merge.{Page, Store}
+use Rattle.lc_model.specs.Merge.{Page, StoreText}
 use Rattle.lc_recover.specs.Reads.{store_of}
 use Rattle.lc_recover.specs.ReadsAs.{ReadsAs}
 use Rattle.lc_recover.proofs.Going.{same_lists}
@@ -29,10 +29,10 @@ reads_so g areas = record {
   pages = refl;
 }
 
-same_store : (one other : Store) → one.logs ≡ other.logs → one.pages ≡ other.pages → one ≡ other
+same_store : (one other : StoreText) → one.logs ≡ other.logs → one.pages ≡ other.pages → one ≡ other
 same_store one other logs pages = ap (λ (l : List (List Record)). record { logs = l; pages = one.pages }) logs ∙ ap (λ (p : List (List Page)). record { logs = other.logs; pages = p }) pages
 
-pub reads_one : (g : Geometry) (areas : List (List ℕ)) (store : Store) → ReadsAs g areas store → store ≡ store_of g areas
+pub reads_one : (g : Geometry) (areas : List (List ℕ)) (store : StoreText) → ReadsAs g areas store → store ≡ store_of g areas
 reads_one g areas store reads = same_store store (store_of g areas) (same_lists store.logs (map records_of (take g.nodes areas)) count each) reads.pages
   where
     count : length store.logs ≡ length (map records_of (take g.nodes areas))

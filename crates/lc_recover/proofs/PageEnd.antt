@@ -10,29 +10,29 @@ use Rattle.lc_record.specs.Content.{segment_of}
 use Rattle.lc_record.specs.Newest.{has_byte}
 use Rattle.lc_record.specs.declared.geometry.Geometry.{Geometry}
 use Rattle.lc_page.specs.PageVector.{entry_at}
-use Rattle.lc_page.specs.declared.entry.Entry.{Entry}
+use Rattle.lc_page.specs.declared.page_entry.PageEntry.{PageEntry}
 use Rattle.lc_page.specs.declared.writing.Writing.{Writing}
-use Rattle.lc_model.specs.Merge.{Page, Store, all_records}
+use Rattle.lc_model.specs.Merge.{Page, StoreText, all_records}
 use Rattle.lc_model.specs.Recovered.{IsBehind}
 use Rattle.lc_model.proofs.Visible.{in-logs, log-known}
 use Rattle.lc_recover.proofs.MergedPage.{change_has}
-use Rattle.lc_recover.specs.Kept.{IsChange, IsIndex}
+use Rattle.lc_recover.specs.StoreContents.{IsChange, IsIndex}
 use Rattle.lc_recover.specs.Page.{IsOf, pages_of}
 use Rattle.lc_recover.specs.Pages.{bytes_of_page}
 use Rattle.lc_recover.specs.Position.{HasChange}
-use Rattle.lc_recover.specs.Stage.{AreTexts, AreasFit, AsFarAs, IsCurrent, IsNew, IsOld, IsResetting, IsWhole, IsWriting, ReadsWords, RestsOrWrites}
+use Rattle.lc_recover.specs.RecoveryPhase.{AreTexts, AreasFit, AsFarAs, IsCurrent, IsNew, IsOld, IsResetting, IsWhole, IsWriting, ReadsWords, RestsOrWrites}
 use Rattle.lc_recover.specs.Steps.{all_pages, writes_done, calls_done, steps_of}
-use Rattle.lc_recover.specs.declared.change.Change.{Change}
+use Rattle.lc_recover.specs.declared.redo_range.RedoRange.{RedoRange}
 use Rattle.lc_recover.specs.declared.log_resets.LogResets.{LogResets}
 use Rattle.lc_recover.specs.declared.page_writes.PageWrites.{PageWrites}
-use Rattle.lc_recover.specs.declared.stage.Stage.{Stage}
-use Rattle.lc_recover.specs.declared.stage.Stage.TheVariants.{Writing as WritingPages, Resetting}
+use Rattle.lc_recover.specs.declared.recovery_phase.RecoveryPhase.{RecoveryPhase}
+use Rattle.lc_recover.specs.declared.recovery_phase.RecoveryPhase.TheVariants.{Writing as WritingPages, Resetting}
 
 -- A page is behind just where a change is of it
 
-module _ (logs : List (List ℕ)) (store : Store) (changes : List Change) (index : IsIndex logs store changes) (segment page : ℕ) (text : Page)
+module _ (logs : List (List ℕ)) (store : StoreText) (changes : List RedoRange) (index : IsIndex logs store changes) (segment page : ℕ) (text : Page)
     (text_is : slice_get (segment_of segment store.pages) page ≡ Some text) where
-  change-behind : (c : Change) → IsChange logs store c → IsOf segment page c → IsBehind store segment page text
+  change-behind : (c : RedoRange) → IsChange logs store c → IsOf segment page c → IsBehind store segment page text
   change-behind c is of =
       let among : Contains (all_records store) is.changing = in-logs store.logs c.log is.changing (log-known store.logs c.log is.changing is.among) is.among in
       let there : slice_get (segment_of segment store.pages) page ≡ Some is.text =
@@ -57,11 +57,11 @@ module _ (logs : List (List ℕ)) (store : Store) (changes : List Change) (index
 module _ (g : Geometry) (w : PageWrites) (i : IsWriting g w) (end : w.next ≡ length w.merged.changes.items) where
   back-empty : i.between.back ≡ []
   back-empty =
-      let all : length w.merged.changes.items ≡ length i.between.front + length i.between.back = ap (λ (l : List Change). length l) i.between.all ∙ length-append i.between.front i.between.back in
+      let all : length w.merged.changes.items ≡ length i.between.front + length i.between.back = ap (λ (l : List RedoRange). length l) i.between.all ∙ length-append i.between.front i.between.back in
       empty_list i.between.back (omega (arith, all, i.between.count, end))
 
   front-all : i.between.front ≡ w.merged.changes.items
-  front-all = sym (i.between.all ∙ ap (λ (l : List Change). i.between.front ++ l) back-empty ∙ append_nothing i.between.front)
+  front-all = sym (i.between.all ∙ ap (λ (l : List RedoRange). i.between.front ++ l) back-empty ∙ append_nothing i.between.front)
 
   -- no page is being written
   none-drafted : (o : Option Writing) → w.current ≡ o → o ≡ None
@@ -80,15 +80,15 @@ module _ (g : Geometry) (w : PageWrites) (i : IsWriting g w) (end : w.next ≡ l
 
   pub end-pages : all_pages w ≡ w.written
   end-pages =
-      let none : length (pages_of (drop w.next w.merged.changes.items)) ≡ 0 = ap (λ (l : List Change). length (pages_of l)) (drop_all w.next w.merged.changes.items (omega (arith, end))) in
+      let none : length (pages_of (drop w.next w.merged.changes.items)) ≡ 0 = ap (λ (l : List RedoRange). length (pages_of l)) (drop_all w.next w.merged.changes.items (omega (arith, end))) in
       omega (arith, none)
 
-  each-end : (segment page : ℕ) (text : Page) (entry : Entry) (bytes : List ℕ) → slice_get (segment_of segment i.store.pages) page ≡ Some text
+  each-end : (segment page : ℕ) (text : Page) (entry : PageEntry) (bytes : List ℕ) → slice_get (segment_of segment i.store.pages) page ≡ Some text
       → AsFarAs i.between.front i.content i.numbers segment page text entry bytes
       → (IsBehind i.store segment page text × IsNew i.content i.numbers segment page entry bytes) ⊎ ((IsBehind i.store segment page text → ⊥) × IsOld text entry bytes)
   each-end segment page text entry bytes is far =
       let all : AsFarAs w.merged.changes.items i.content i.numbers segment page text entry bytes =
-      subst (λ (l : List Change). AsFarAs l i.content i.numbers segment page text entry bytes) front-all far in
+      subst (λ (l : List RedoRange). AsFarAs l i.content i.numbers segment page text entry bytes) front-all far in
       elim all [
         | inl new ↦ inl (changed-behind w.kept.logs.items i.store w.merged.changes.items i.merging.index segment page text is new.0, new.1)
         | inr old ↦ inr ((λ behind. old.0 (behind-changed w.kept.logs.items i.store w.merged.changes.items i.merging.index segment page text is behind)), old.1)
@@ -141,7 +141,7 @@ module _ (g : Geometry) (w : PageWrites) (i : IsWriting g w) (end : w.next ≡ l
         }
 
   -- one step more is done than of the page writes
-  pub end-steps : {B : Type 0} (r : LogResets) → r.written ≡ w.written → r.next ≡ 0 → r.is_closing ≡ false → (result : Result Stage B)
+  pub end-steps : {B : Type 0} (r : LogResets) → r.written ≡ w.written → r.next ≡ 0 → r.is_closing ≡ false → (result : Result RecoveryPhase B)
       → IfOk result (λ stage. steps_of g stage ≡ steps_of g (Resetting r) + 1) → IfOk result (λ stage. steps_of g stage ≡ steps_of g (WritingPages w) + 1)
   end-steps r written next at_rest result steps =
       let closing : ◌≡◌ {A = ℕ} (if r.is_closing then 1 else 0) 0 = ap (λ b. if b then 1 else 0) at_rest in

@@ -12,13 +12,13 @@ use Rattle.std.proofs.lemmas.Map.Steps.{length-le_from_distinct_below}
 use Rattle.std.proofs.lemmas.Map.Views.{Contains-from_any}
 use Rattle.std.proofs.lemmas.Option.{slice_get_within}
 use Rattle.lc_record.specs.Content.{segment_of}
-use Rattle.lc_model.specs.Merge.{Page, Store, all_records}
+use Rattle.lc_model.specs.Merge.{Page, StoreText, all_records}
 use Rattle.lc_model.specs.Recovered.{IsBehind}
 use Rattle.lc_model.proofs.Visible.{in-logs, log-known}
 use Rattle.lc_recover.proofs.Images.{in-segment}
 use Rattle.lc_recover.proofs.PagesOf.{are_listed, are_ascending, are_different}
 use Rattle.lc_recover.proofs.MergedPage.{change_has}
-use Rattle.lc_recover.specs.Kept.{IsChange, IsMerging}
+use Rattle.lc_recover.specs.StoreContents.{IsChange, IsMerging}
 use Rattle.lc_recover.specs.Page.{pages_of, AreDifferent}
 use Rattle.lc_recover.specs.Recovery.{AreBehind}
 use Rattle.lc_recover.specs.declared.merged.Merged.{Merged}
@@ -26,7 +26,7 @@ use Rattle.lc_recover.specs.declared.merged.Merged.{Merged}
 abbrev Pair : Type 0
 Pair = ℕ × ℕ
 
-module _ (logs : List (List ℕ)) (store : Store) (merged : Merged) (merging : IsMerging logs store merged) where
+module _ (logs : List (List ℕ)) (store : StoreText) (merged : Merged) (merging : IsMerging logs store merged) where
   -- a page that is listed, and the record that is newer
   listed_page : (segment page : ℕ) → Contains (pages_of merged.changes.items) (segment, page)
       → (text : Page) × (slice_get (segment_of segment store.pages) page ≡ Some text) × IsBehind store segment page text
@@ -46,7 +46,7 @@ module _ (logs : List (List ℕ)) (store : Store) (merged : Merged) (merging : I
       (are_listed merged.changes.items segment page).1 (one.0, one.1, (one.2, one.3))
 
 -- the pages of the changes are those that some record is newer than, in order
-pub pages-behind : (logs : List (List ℕ)) (store : Store) (merged : Merged) → IsMerging logs store merged → AreBehind store (pages_of merged.changes.items)
+pub pages-behind : (logs : List (List ℕ)) (store : StoreText) (merged : Merged) → IsMerging logs store merged → AreBehind store (pages_of merged.changes.items)
 pages-behind logs store merged merging = record {
   ascending = are_ascending merged.changes.items merging.index.ascending;
   all = λ segment page. (
@@ -132,7 +132,7 @@ few_pairs segments pages ps lie differ =
     omega (arith, few, length-map ps (place_in pages))
 
 -- there are at most as many as the segments have
-pub few-pages : (logs : List (List ℕ)) (store : Store) (merged : Merged) (segments pages : ℕ) → IsMerging logs store merged → length store.pages ≡ segments
+pub few-pages : (logs : List (List ℕ)) (store : StoreText) (merged : Merged) (segments pages : ℕ) → IsMerging logs store merged → length store.pages ≡ segments
     → ((segment page : ℕ) (text : Page) → slice_get (segment_of segment store.pages) page ≡ Some text → page < pages) → length (pages_of merged.changes.items) ≤ segments * pages
 few-pages logs store merged segments pages merging count within =
     let listed : List Pair = pages_of merged.changes.items in

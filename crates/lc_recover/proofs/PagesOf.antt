@@ -6,9 +6,9 @@ use Rattle.std.proofs.lemmas.List.Elements.{All-head, All-tail, All-weaker, All-
 use Rattle.std.proofs.lemmas.List.{take_all, length-drop}
 use Rattle.std.proofs.lemmas.Option.{same_Some, slice_get-get_or}
 use Rattle.lc_model.proofs.Visible.{contains-filter}
-use Rattle.lc_recover.specs.Kept.{AreAscending, IsBefore}
+use Rattle.lc_recover.specs.StoreContents.{AreAscending, IsBefore}
 use Rattle.lc_recover.specs.Page.{IsOf, IsOfAnother, IsFirstPage, page_of, is_another, pages_of, AreListed, AreDifferent, ArePagesAscending, BeginWithTheFirst, IsPageBefore}
-use Rattle.lc_recover.specs.declared.change.Change.{Change}
+use Rattle.lc_recover.specs.declared.redo_range.RedoRange.{RedoRange}
 
 -- Pairs
 
@@ -67,7 +67,7 @@ in_filter f (x ∷ xs) y has =
 
 -- Which pages are listed
 
-listed_from : (changes : List Change) (p : Pair) → Contains (pages_of changes) p → (c : Change) × Contains changes c × (page_of c ≡ p)
+listed_from : (changes : List RedoRange) (p : Pair) → Contains (pages_of changes) p → (c : RedoRange) × Contains changes c × (page_of c ≡ p)
 listed_from [] p has = absurd (omega (arith, has.1))
 listed_from (c ∷ cs) p has =
     elim (Contains-append_cases (page_of c ∷ []) (filter (is_another (page_of c)) (pages_of cs)) p has) [
@@ -77,7 +77,7 @@ listed_from (c ∷ cs) p has =
           (one.0, Contains-append_right (c ∷ []) cs one.0 one.1, one.2)
     ]
 
-listed : (changes : List Change) (c : Change) → Contains changes c → Contains (pages_of changes) (page_of c)
+listed : (changes : List RedoRange) (c : RedoRange) → Contains changes c → Contains (pages_of changes) (page_of c)
 listed [] c has = absurd (omega (arith, has.1))
 listed (d ∷ cs) c has =
     let own : Pair = page_of d in
@@ -92,7 +92,7 @@ listed (d ∷ cs) c has =
           ])
     ]
 
-pub are_listed : (changes : List Change) → AreListed changes
+pub are_listed : (changes : List RedoRange) → AreListed changes
 are_listed changes segment page = (
   (λ has. let one = listed_from changes (segment, page) has in (one.0, one.1, (ap (λ (x : Pair). x.0) one.2, ap (λ (x : Pair). x.1) one.2))),
   (λ of.
@@ -110,7 +110,7 @@ differ-filter f (p ∷ ps) differ =
       | false ↦ differ-filter f ps differ.1
     ]
 
-pub are_different : (changes : List Change) → AreDifferent (pages_of changes)
+pub are_different : (changes : List RedoRange) → AreDifferent (pages_of changes)
 are_different [] = tt
 are_different (c ∷ cs) =
     let test : Pair → Bool = is_another (page_of c) in (
@@ -120,12 +120,12 @@ are_different (c ∷ cs) =
 
 -- In order
 
-later_page : (c d : Change) → is_another (page_of c) (page_of d) ≡ true → c.segment ≡ d.segment → (c.page < d.page) ⊎ ((c.page ≡ d.page) × (c.seq ≤ d.seq))
+later_page : (c d : RedoRange) → is_another (page_of c) (page_of d) ≡ true → c.segment ≡ d.segment → (c.page < d.page) ⊎ ((c.page ≡ d.page) × (c.seq ≤ d.seq))
     → IsPageBefore (page_of c) (page_of d)
 later_page c d other segment (inl page) = inr (segment, page)
 later_page c d other segment (inr same) = absurd (another-differs (page_of c) (page_of d) other (same_pair (page_of c) (page_of d) segment same.0))
 
-page_before : (c d : Change) → is_another (page_of c) (page_of d) ≡ true → IsBefore c d → IsPageBefore (page_of c) (page_of d)
+page_before : (c d : RedoRange) → is_another (page_of c) (page_of d) ≡ true → IsBefore c d → IsPageBefore (page_of c) (page_of d)
 page_before c d other (inl segment) = inl segment
 page_before c d other (inr same) = later_page c d other same.0 same.1
 
@@ -137,7 +137,7 @@ ascend-filter f (p ∷ ps) ascend =
       | false ↦ ascend-filter f ps ascend.1
     ]
 
-pub are_ascending : (changes : List Change) → AreAscending changes → ArePagesAscending (pages_of changes)
+pub are_ascending : (changes : List RedoRange) → AreAscending changes → ArePagesAscending (pages_of changes)
 are_ascending [] ascend = tt
 are_ascending (c ∷ cs) ascend =
     let test : Pair → Bool = is_another (page_of c) in
@@ -155,7 +155,7 @@ are_ascending (c ∷ cs) ascend =
 
 -- The first page
 
-others_stay : (first : Change) (front rest : List Change) → All (IsOf first.segment first.page) front → All (IsOfAnother first.segment first.page) rest
+others_stay : (first : RedoRange) (front rest : List RedoRange) → All (IsOf first.segment first.page) front → All (IsOfAnother first.segment first.page) rest
     → filter (is_another (page_of first)) (pages_of (front ++ rest)) ≡ pages_of rest
 others_stay first [] rest here others =
     kept_all (is_another (page_of first)) (pages_of rest)
@@ -181,33 +181,33 @@ drop_front : {A : Type 0} (xs ys : List A) → drop (length xs) (xs ++ ys) ≡ y
 drop_front [] ys = refl
 drop_front (x ∷ xs) ys = drop_front xs ys
 
-pub rest_is : (changes front : List Change) (its : IsFirstPage changes front) → drop (length front) changes ≡ its.rest
-rest_is changes front its = ap (λ (cs : List Change). drop (length front) cs) its.whole ∙ drop_front front its.rest
+pub rest_is : (changes front : List RedoRange) (its : IsFirstPage changes front) → drop (length front) changes ≡ its.rest
+rest_is changes front its = ap (λ (cs : List RedoRange). drop (length front) cs) its.whole ∙ drop_front front its.rest
 
-first_of : (changes front rest : List Change) (first : Change) → changes ≡ front ++ rest → 1 ≤ length front → slice_get changes 0 ≡ Some first → All (IsOf first.segment first.page) front → All (IsOfAnother first.segment first.page) rest
+first_of : (changes front rest : List RedoRange) (first : RedoRange) → changes ≡ front ++ rest → 1 ≤ length front → slice_get changes 0 ≡ Some first → All (IsOf first.segment first.page) front → All (IsOfAnother first.segment first.page) rest
     → pages_of changes ≡ page_of first ∷ pages_of rest
 first_of changes [] rest first whole some is here others = absurd (omega (arith, some))
 first_of changes (c ∷ front) rest first whole some is here others =
-    let same : c ≡ first = same_Some c first (sym (ap (λ (cs : List Change). slice_get cs 0) whole) ∙ is) in
+    let same : c ≡ first = same_Some c first (sym (ap (λ (cs : List RedoRange). slice_get cs 0) whole) ∙ is) in
     ap pages_of whole
-    ∙ ap (λ (d : Change). page_of d ∷ filter (is_another (page_of d)) (pages_of (front ++ rest))) same
+    ∙ ap (λ (d : RedoRange). page_of d ∷ filter (is_another (page_of d)) (pages_of (front ++ rest))) same
     ∙ ap (λ (ps : List Pair). page_of first ∷ ps) (others_stay first front rest (All-tail (IsOf first.segment first.page) c front here) others)
 
-has_first : (changes : List Change) (first : Change) → slice_get changes 0 ≡ Some first → 1 ≤ length changes
+has_first : (changes : List RedoRange) (first : RedoRange) → slice_get changes 0 ≡ Some first → 1 ≤ length changes
 has_first [] first is = absurd cc
 has_first (c ∷ cs) first is = omega arith
 
-pub begin_with_the_first : (changes : List Change) → BeginWithTheFirst changes
+pub begin_with_the_first : (changes : List RedoRange) → BeginWithTheFirst changes
 begin_with_the_first changes front first its is ascending =
     first_of changes front its.rest first its.whole (its.some (has_first changes first is)) is (its.of_first first is) (its.no_more first is ascending)
-    ∙ ap (λ (cs : List Change). page_of first ∷ pages_of cs) (sym (rest_is changes front its))
+    ∙ ap (λ (cs : List RedoRange). page_of first ∷ pages_of cs) (sym (rest_is changes front its))
 
-pub one_page_more : (changes front : List Change) → IsFirstPage changes front → 1 ≤ length changes → AreAscending changes → length (pages_of changes) ≡ 1 + length (pages_of (drop (length front) changes))
+pub one_page_more : (changes front : List RedoRange) → IsFirstPage changes front → 1 ≤ length changes → AreAscending changes → length (pages_of changes) ≡ 1 + length (pages_of (drop (length front) changes))
 one_page_more changes front its some ascending =
-    let none : Change = record { segment = 0; page = 0; seq = 0; log = 0; place = 0; words = 0; offset = 0; len = 0 } in
+    let none : RedoRange = record { segment = 0; page = 0; seq = 0; log = 0; place = 0; words = 0; offset = 0; len = 0 } in
     let behind = pages_of (drop (length front) changes) in
     let count : length (page_of (get_or changes 0 none) ∷ behind) ≡ 1 + length behind = omega arith in
     ap (λ (ps : List Pair). length ps) (begin_with_the_first changes front (get_or changes 0 none) its (slice_get-get_or changes 0 none (omega (arith, some))) ascending) ∙ count
 
-pub all_behind : (n : ℕ) (changes : List Change) → take (length changes - n) (drop n changes) ≡ drop n changes
+pub all_behind : (n : ℕ) (changes : List RedoRange) → take (length changes - n) (drop n changes) ≡ drop n changes
 all_behind n changes = take_all (length changes - n) (drop n changes) (omega (arith, length-drop n changes))

@@ -23,8 +23,8 @@ use Rattle.lc_record.proofs.ListLemmas.{Contains-slice_get as contains-at}
 use Rattle.lc_page.specs.PageVector.{entry_at}
 use Rattle.lc_model.specs.Merge.{Page}
 use Rattle.lc_recover.specs.Pages.{kept_page, kept_pages}
-use Rattle.lc_recover.specs.Changes.{Seat, Touches, Adds, IsOnRange, IsOf, HasOf, Covers, AreOf, change_on, change_under}
-use Rattle.lc_recover.specs.declared.change.Change.{Change}
+use Rattle.lc_recover.specs.Changes.{PlacedRecord, Touches, Adds, IsOnRange, IsOf, HasOf, Covers, AreOf, change_on, change_under}
+use Rattle.lc_recover.specs.declared.redo_range.RedoRange.{RedoRange}
 use Rattle.lc_recover.specs.declared.segment_pages.SegmentPages.{SegmentPages}
 use Rattle.lc_recover.proofs.Walks.{length-kept}
 use Rattle.lc_recover.proofs.Counts.{kept-at, contains-cons}
@@ -50,7 +50,7 @@ number-next segment locks i lock at other so_far =
 
 -- What a push adds
 
-pub adds-more : (Such Other : Change → Type 0) (xs ys zs : List Change) → Adds Such xs ys → Adds Other ys zs → ((c : Change) → Other c → Such c) → Adds Such xs zs
+pub adds-more : (Such Other : RedoRange → Type 0) (xs ys zs : List RedoRange) → Adds Such xs ys → Adds Other ys zs → ((c : RedoRange) → Other c → Such c) → Adds Such xs zs
 adds-more Such Other xs ys zs first second such = record {
   kept = λ c there. second.kept c (first.kept c there);
   only = λ c there. elim (second.only c there) [
@@ -62,7 +62,7 @@ adds-more Such Other xs ys zs first second such = record {
 -- Ranges
 
 -- the pages under the ranges before this one are covered
-abbrev pub CoversSpans : List (List Page) → Seat → ℕ → List Change → Type 0
+abbrev pub CoversSpans : List (List Page) → PlacedRecord → ℕ → List RedoRange → Type 0
 CoversSpans pages s i changes =
     (k : ℕ) (placed : PlacedSpan) → k < i → slice_get (placed_spans s.its) k ≡ Some placed →
     (page : ℕ) (text : Page) → slice_get (segment_of placed.span.segment pages) page ≡ Some text → Touches placed.span page →
@@ -91,12 +91,12 @@ page-known s page text at =
     let inside : page < length s.texts = omega (arith, slice_get_within (kept_pages s) page text at, length-kept s) in
     (inside, same_Some text (kept_page s page) (sym at ∙ page-there s page inside))
 
-of-span : (pages : List (List Page)) (s : Seat) (k : ℕ) (placed : PlacedSpan) (its : SegmentPages) (seq : ℕ) (c : Change) → slice_get (placed_spans s.its) k ≡ Some placed → 1 ≤ placed.span.len
+of-span : (pages : List (List Page)) (s : PlacedRecord) (k : ℕ) (placed : PlacedSpan) (its : SegmentPages) (seq : ℕ) (c : RedoRange) → slice_get (placed_spans s.its) k ≡ Some placed → 1 ≤ placed.span.len
     → segment_of placed.span.segment pages ≡ kept_pages its → seq ≡ number_or_zero placed.span.segment s.its.locks
     → IsOnRange (change_under seq s placed 0) placed.span its.texts c → IsOf pages s c
 of-span pages s k placed its seq c at some same seq_is on =
     let place = touched placed.span on.number some on.touches in
-    subst (λ (x : Change). IsOf pages s x) (sym on.is) (record {
+    subst (λ (x : RedoRange). IsOf pages s x) (sym on.is) (record {
       placed = placed;
       its = contains-at (placed_spans s.its) k placed at;
       is = ap (λ (n : ℕ). change_under n s placed on.number) seq_is;
@@ -109,8 +109,8 @@ of-span pages s k placed its seq c at some same seq_is on =
     })
 
 -- one range more is covered
-pub covers-more : (pages : List (List Page)) (s : Seat) (i : ℕ) (placed : PlacedSpan) (before after : List Change) → slice_get (placed_spans s.its) i ≡ Some placed
-    → ((c : Change) → Contains before c → Contains after c) → CoversSpans pages s i before
+pub covers-more : (pages : List (List Page)) (s : PlacedRecord) (i : ℕ) (placed : PlacedSpan) (before after : List RedoRange) → slice_get (placed_spans s.its) i ≡ Some placed
+    → ((c : RedoRange) → Contains before c → Contains after c) → CoversSpans pages s i before
     → ((page : ℕ) (text : Page) → slice_get (segment_of placed.span.segment pages) page ≡ Some text → Touches placed.span page →
     text.sequence < number_or_zero placed.span.segment s.its.locks → Contains after (change_on s placed page)) → CoversSpans pages s (i + 1) after
 covers-more pages s i placed before after at kept earlier new = λ k its k_in its_at page text is touches less. elim (cases_lt k i) [
@@ -123,7 +123,7 @@ covers-more pages s i placed before after at kept earlier new = λ k its k_in it
 ]
 
 -- what a range adds covers its pages
-covers-span : (pages : List (List Page)) (s : Seat) (placed : PlacedSpan) (its : SegmentPages) (seq : ℕ) (after : List Change) → segment_of placed.span.segment pages ≡ kept_pages its
+covers-span : (pages : List (List Page)) (s : PlacedRecord) (placed : PlacedSpan) (its : SegmentPages) (seq : ℕ) (after : List RedoRange) → segment_of placed.span.segment pages ≡ kept_pages its
     → seq ≡ number_or_zero placed.span.segment s.its.locks
     → ((page : ℕ) → page < length its.texts → Touches placed.span page → (entry_at its.texts page).stable < seq → Contains after (change_under seq s placed page))
     → (page : ℕ) (text : Page) → slice_get (segment_of placed.span.segment pages) page ≡ Some text → Touches placed.span page →
@@ -134,7 +134,7 @@ covers-span pages s placed its seq after same seq_is new page text at touches le
     subst (λ (n : ℕ). Contains after (change_under n s placed page)) seq_is (new page known.0 touches newer)
 
 -- where there is no such segment there is no page
-pub covers-nothing : (pages : List (List Page)) (s : Seat) (placed : PlacedSpan) (after : List Change) → segment_of placed.span.segment pages ≡ []
+pub covers-nothing : (pages : List (List Page)) (s : PlacedRecord) (placed : PlacedSpan) (after : List RedoRange) → segment_of placed.span.segment pages ≡ []
     → (page : ℕ) (text : Page) → slice_get (segment_of placed.span.segment pages) page ≡ Some text → Touches placed.span page →
     text.sequence < number_or_zero placed.span.segment s.its.locks → Contains after (change_on s placed page)
 covers-nothing pages s placed after none page text at touches less = absurd (none-some text (sym (ap (λ (l : List Page). slice_get l page) none) ∙ at))
@@ -146,7 +146,7 @@ placed-at version place [] k range at = absurd (none-some range at)
 placed-at version place (r ∷ rs) zero range at = (record { span = span_of r; place = place + place_words version }, refl, ap span_of (same_Some r range at))
 placed-at version place (r ∷ rs) (suc k) range at = placed-at version (place + place_words version + data_len (length r.bytes)) rs k range at
 
-pub covers-all : (pages : List (List Page)) (s : Seat) (i : ℕ) (changes : List Change) → length s.its.ranges ≤ i → CoversSpans pages s i changes → Covers pages s changes
+pub covers-all : (pages : List (List Page)) (s : PlacedRecord) (i : ℕ) (changes : List RedoRange) → length s.its.ranges ≤ i → CoversSpans pages s i changes → Covers pages s changes
 covers-all pages s i changes all covers = λ segment page offset text at within has.
     let both = and_parts (is_some (byte_of segment (page * 256 + offset) s.its.ranges)) (ltb text.sequence (number_or_zero segment s.its.locks)) has in
     let range = byte_of-known segment (page * 256 + offset) s.its.ranges both.0 in
@@ -165,7 +165,7 @@ covers-all pages s i changes all covers = λ segment page offset text at within 
 
 -- Seats
 
-pub of-more : (pages : List (List Page)) (seats : List Seat) (s : Seat) (before after : List Change) → AreOf pages seats before → Adds (IsOf pages s) before after → Covers pages s after → AreOf pages (seats ++ s ∷ []) after
+pub of-more : (pages : List (List Page)) (seats : List PlacedRecord) (s : PlacedRecord) (before after : List RedoRange) → AreOf pages seats before → Adds (IsOf pages s) before after → Covers pages s after → AreOf pages (seats ++ s ∷ []) after
 of-more pages seats s before after so_far adds covers = record {
   sound = λ c there. elim (adds.only c there) [
     | inl old ↦ (let its = so_far.sound c old in (its.0, Contains-append_left seats (s ∷ []) its.0 its.1, its.2))
@@ -174,7 +174,7 @@ of-more pages seats s before after so_far adds covers = record {
   whole = λ t there. elim (Contains-append_cases seats (s ∷ []) t there) [
     | inl old ↦ λ segment page offset text at within has. (let c = so_far.whole t old segment page offset text at within has in (c.0, adds.kept c.0 c.1, c.2, c.3, c.4, c.5))
     | inr new ↦ (elim (contains-cons s [] t new) [
-      | inl same ↦ subst (λ (x : Seat). Covers pages x after) same covers
+      | inl same ↦ subst (λ (x : PlacedRecord). Covers pages x after) same covers
       | inr nothing ↦ absurd (omega (arith, nothing.1))
     ])
   ];
@@ -182,11 +182,11 @@ of-more pages seats s before after so_far adds covers = record {
 
 -- One range
 
-pub record SpanAdded (pages : List (List Page)) (s : Seat) (i : ℕ) (before after : List Change) : Type 0 where
+pub record SpanAdded (pages : List (List Page)) (s : PlacedRecord) (i : ℕ) (before after : List RedoRange) : Type 0 where
   pub adds : Adds (IsOf pages s) before after
   pub covers : CoversSpans pages s (i + 1) after
 
-pub span-added : (pages : List (List Page)) (s : Seat) (i : ℕ) (placed : PlacedSpan) (its : SegmentPages) (seq : ℕ) (before now after : List Change)
+pub span-added : (pages : List (List Page)) (s : PlacedRecord) (i : ℕ) (placed : PlacedSpan) (its : SegmentPages) (seq : ℕ) (before now after : List RedoRange)
     → slice_get (placed_spans s.its) i ≡ Some placed → 1 ≤ placed.span.len → segment_of placed.span.segment pages ≡ kept_pages its → seq ≡ number_or_zero placed.span.segment s.its.locks
     → Adds (IsOf pages s) before now → CoversSpans pages s i now
     → Adds (IsOnRange (change_under seq s placed 0) placed.span its.texts) now after
@@ -199,7 +199,7 @@ span-added pages s i placed its seq before now after at some same seq_is so_far 
 }
 
 -- where the range is on a page that is older, it is to be put on it
-pub span-newer : (pages : List (List Page)) (s : Seat) (i : ℕ) (placed : PlacedSpan) (its : SegmentPages) (seq : ℕ) → slice_get (placed_spans s.its) i ≡ Some placed → 1 ≤ placed.span.len
+pub span-newer : (pages : List (List Page)) (s : PlacedRecord) (i : ℕ) (placed : PlacedSpan) (its : SegmentPages) (seq : ℕ) → slice_get (placed_spans s.its) i ≡ Some placed → 1 ≤ placed.span.len
     → segment_of placed.span.segment pages ≡ kept_pages its → seq ≡ number_or_zero placed.span.segment s.its.locks
-    → ((c : Change) × IsOnRange (change_under seq s placed 0) placed.span its.texts c) → HasOf pages s
+    → ((c : RedoRange) × IsOnRange (change_under seq s placed 0) placed.span its.texts c) → HasOf pages s
 span-newer pages s i placed its seq at some same seq_is on = (on.0, of-span pages s i placed its seq on.0 at some same seq_is on.1)

@@ -18,7 +18,7 @@ use Rattle.lc_recover.specs.Locks.{number_of, numbers_of, numbers_in, greatest_k
 use Rattle.lc_recover.specs.Pages.{AreKept}
 use Rattle.lc_recover.specs.Reading.{store_of}
 use Rattle.lc_recover.specs.Reads.{area_count, area_len}
-use Rattle.lc_recover.specs.declared.kept.Kept.{Kept}
+use Rattle.lc_recover.specs.declared.store_contents.StoreContents.{StoreContents}
 use Rattle.lc_recover.specs.declared.lock_number.LockNumber.{LockNumber}
 use Rattle.lc_recover.specs.declared.read_areas.ReadAreas.{ReadAreas}
 use Rattle.lc_recover.specs.declared.segment_pages.SegmentPages.{SegmentPages}
@@ -51,14 +51,14 @@ counted-none r logs segments locks numbers = record {
   numbers = numbers ∙ ap (map greatest_kept) (sym segments);
 }
 
-pub read-none : (g : Geometry) (kept : Kept) → kept.logs.items ≡ [] → kept.segments.items ≡ [] → IsRead g [] kept
+pub read-none : (g : Geometry) (kept : StoreContents) → kept.logs.items ≡ [] → kept.segments.items ≡ [] → IsRead g [] kept
 read-none g kept logs segments = record {
   logs = logs ∙ ap (map words_of) (sym (take-none g.nodes));
   segments = subst (λ (l : List (List ℕ)). AreAllKept g.pages l kept.segments.items) (sym (drop-none g.nodes))
       (subst (λ (l : List SegmentPages). AreAllKept g.pages [] l) (sym segments) (all_kept-none g.pages));
 }
 
-pub same-kept : (g : Geometry) (areas : List (List ℕ)) (kept other : Kept) → other.logs.items ≡ kept.logs.items → other.segments.items ≡ kept.segments.items → IsRead g areas kept → IsRead g areas other
+pub same-kept : (g : Geometry) (areas : List (List ℕ)) (kept other : StoreContents) → other.logs.items ≡ kept.logs.items → other.segments.items ≡ kept.segments.items → IsRead g areas kept → IsRead g areas other
 same-kept g areas kept other logs segments is = record {
   logs = logs ∙ is.logs;
   segments = subst (λ (l : List SegmentPages). AreAllKept g.pages (drop g.nodes areas) l) (sym segments) is.segments;
@@ -118,7 +118,7 @@ counted-log r new words logs segments locks numbers is = record {
   numbers = numbers ∙ is.numbers ∙ ap (map greatest_kept) (sym segments);
 }
 
-pub read-log : (g : Geometry) (areas : List (List ℕ)) (bytes : List ℕ) (kept new : Kept) → length areas < g.nodes → new.logs.items ≡ kept.logs.items ++ words_of bytes ∷ [] → new.segments.items ≡ kept.segments.items
+pub read-log : (g : Geometry) (areas : List (List ℕ)) (bytes : List ℕ) (kept new : StoreContents) → length areas < g.nodes → new.logs.items ≡ kept.logs.items ++ words_of bytes ∷ [] → new.segments.items ≡ kept.segments.items
     → IsRead g areas kept → IsRead g (areas ++ bytes ∷ []) new
 read-log g areas bytes kept new less logs segments is =
     let n : ℕ = g.nodes in
@@ -141,7 +141,7 @@ counted-segment r new pages logs segments locks numbers is = record {
   numbers = numbers ∙ ap (λ (l : List ℕ). l ++ greatest_kept pages ∷ []) is.numbers ∙ sym (map-append greatest_kept r.kept.segments.items (pages ∷ [])) ∙ ap (map greatest_kept) (sym segments);
 }
 
-pub read-segment : (g : Geometry) (areas : List (List ℕ)) (bytes : List ℕ) (pages : SegmentPages) (kept new : Kept) → g.nodes ≤ length areas → AreKept bytes g.pages pages
+pub read-segment : (g : Geometry) (areas : List (List ℕ)) (bytes : List ℕ) (pages : SegmentPages) (kept new : StoreContents) → g.nodes ≤ length areas → AreKept bytes g.pages pages
     → new.logs.items ≡ kept.logs.items → new.segments.items ≡ kept.segments.items ++ pages ∷ [] → IsRead g areas kept → IsRead g (areas ++ bytes ∷ []) new
 read-segment g areas bytes pages kept new more its logs segments is =
     let n : ℕ = g.nodes in

@@ -11,10 +11,10 @@ use Rattle.lc_recover.proofs.ReadLemmas.{count-read, counted-log, counted-segmen
 use Rattle.lc_recover.specs.KeptAreas.{AddsLog, AddsSegment, read_count}
 use Rattle.lc_recover.specs.Pages.{AreKept}
 use Rattle.lc_recover.specs.Reads.{area_count, area_len}
-use Rattle.lc_recover.specs.Stage.{AreaFits, Fits, HasItsPages, HasItsWords, Quiet}
+use Rattle.lc_recover.specs.RecoveryPhase.{AreaFits, Fits, HasItsPages, HasItsWords, Quiet}
 use Rattle.lc_recover.specs.declared.read_areas.ReadAreas.{ReadAreas}
 use Rattle.lc_recover.specs.declared.segment_pages.SegmentPages.{SegmentPages}
-use Rattle.lc_recover.specs.declared.stage.Stage.TheVariants.{Reading}
+use Rattle.lc_recover.specs.declared.recovery_phase.RecoveryPhase.TheVariants.{Reading}
 
 module _ {D : Type 0} (a : Ghosts D) (g : Geometry) (areas : List D) (r new : ReadAreas) (fits : Fits a g (Reading r) areas) (k : ℕ) (here : k ≡ read_count r)
     (old is : D) (was : slice_get areas k ≡ Some old) (quiet : Quiet a old is) where

@@ -19,11 +19,11 @@ use Rattle.lc_record.specs.declared.record.Record.{Record}
 use Rattle.lc_record.proofs.PuttingLemmas.{byte_from-behind, byte_in-same}
 use Rattle.lc_record.proofs.ListLemmas.{slice_get_some as get-some}
 use Rattle.lc_log.specs.LogText.{IsWhole}
-use Rattle.lc_model.specs.Merge.{Page, Store, all_records, IsOutside, AreWithin}
+use Rattle.lc_model.specs.Merge.{Page, StoreText, all_records, IsOutside, AreWithin}
 use Rattle.lc_model.specs.Recovered.{HasByte, IsReadable}
 use Rattle.lc_model.proofs.Visible.{all-logs}
 use Rattle.lc_recover.proofs.Images.{get-segment, shape-of}
-use Rattle.lc_recover.specs.Stage.{AreTexts}
+use Rattle.lc_recover.specs.RecoveryPhase.{AreTexts}
 
 -- A byte of a record
 
@@ -68,7 +68,7 @@ written_byte segment n (range ∷ ranges) are within written =
     ]
 
 -- a whole record within the store has a byte of each segment that it has a number of
-record_byte : (store : Store) (segment n : ℕ) (r : Record) → IsCanonical r → (IsOutside store r → ⊥) → length (segment_of segment store.pages) * 256 ≡ n → HasByte segment n r
+record_byte : (store : StoreText) (segment n : ℕ) (r : Record) → IsCanonical r → (IsOutside store r → ⊥) → length (segment_of segment store.pages) * 256 ≡ n → HasByte segment n r
 record_byte store segment n r canonical inside len = λ some.
     written_byte segment n r.ranges canonical.each_range
     (λ range has same.
@@ -81,7 +81,7 @@ record_byte store segment n r canonical inside len = λ some.
 
 -- The store
 
-module _ (g : Geometry) (logs : List (List ℕ)) (store : Store) (texts : AreTexts g logs store) (within : AreWithin store) where
+module _ (g : Geometry) (logs : List (List ℕ)) (store : StoreText) (texts : AreTexts g logs store) (within : AreWithin store) where
   bytes_on_pages : (segment n : ℕ) → length (segment_of segment store.pages) * 256 ≡ n → All (HasByte segment n) (all_records store)
   bytes_on_pages segment n len =
       all-logs (HasByte segment n) store.logs (λ log less.
@@ -92,7 +92,7 @@ module _ (g : Geometry) (logs : List (List ℕ)) (store : Store) (texts : AreTex
       records (All-contains_itself records))
 
 -- pages of the geometry and whole records within them are a store that can be read
-pub readable : (g : Geometry) (logs : List (List ℕ)) (store : Store) → AreTexts g logs store → AreWithin store → length store.pages ≡ g.segments
+pub readable : (g : Geometry) (logs : List (List ℕ)) (store : StoreText) → AreTexts g logs store → AreWithin store → length store.pages ≡ g.segments
     → ((s : ℕ) → s < g.segments → length (segment_of (s + 1) store.pages) ≡ g.pages)
     → ((segment page : ℕ) (text : Page) → slice_get (segment_of segment store.pages) page ≡ Some text → length text.bytes ≡ 256)
     → IsReadable g store

@@ -9,7 +9,7 @@ use Rattle.lc_record.specs.Marks.{counting}
 use Rattle.lc_record.proofs.ListLemmas.{length-counting, slice_get-map_some as get-map}
 use Rattle.lc_page.specs.PageVector.{entry_at, entry_text, settled}
 use Rattle.lc_page.specs.declared.draft.Draft.{Draft}
-use Rattle.lc_page.specs.declared.entry.Entry.{Entry}
+use Rattle.lc_page.specs.declared.page_entry.PageEntry.{PageEntry}
 use Rattle.lc_model.specs.Merge.{Page}
 use Rattle.lc_recover.proofs.AreaLemmas.{set-get, set-others}
 use Rattle.lc_recover.proofs.Bridge.{same_page}
@@ -20,8 +20,8 @@ use Rattle.lc_recover.specs.Pages.{bytes_of_page, kept_page, kept_pages}
 use Rattle.lc_recover.specs.Recovered.{page_read, recovered_pages}
 use Rattle.lc_recover.specs.Recovery.{with_page}
 use Rattle.lc_recover.specs.Shows.{new_page}
-use Rattle.lc_recover.specs.Stage.{IsDraft}
-use Rattle.lc_recover.specs.declared.change.Change.{Change}
+use Rattle.lc_recover.specs.RecoveryPhase.{IsDraft}
+use Rattle.lc_recover.specs.declared.redo_range.RedoRange.{RedoRange}
 use Rattle.lc_recover.specs.declared.segment_pages.SegmentPages.{SegmentPages}
 
 count-kept : (s : SegmentPages) → length (kept_pages s) ≡ length s.texts
@@ -35,18 +35,18 @@ get-kept s k within =
 module _ (pages renewed : SegmentPages) (page seq : ℕ) (bytes : List ℕ) (within : page < length pages.texts) (long : length bytes ≡ 256) (room : page * 256 + 256 ≤ length pages.bytes.items)
     (texts : renewed.texts ≡ slice_set pages.texts page (settled (entry_at pages.texts page) seq)) (over : renewed.bytes.items ≡ overlaid pages.bytes.items (page * 256) bytes) where
   same_count : length renewed.texts ≡ length pages.texts
-  same_count = ap (λ (l : List Entry). length l) texts ∙ length-set pages.texts page (settled (entry_at pages.texts page) seq)
+  same_count = ap (λ (l : List PageEntry). length l) texts ∙ length-set pages.texts page (settled (entry_at pages.texts page) seq)
 
   own : kept_page renewed page ≡ record { sequence = seq; bytes = bytes }
   own =
       same_page (kept_page renewed page) (record { sequence = seq; bytes = bytes })
-      (ap (λ (e : Entry). e.stable) (ap (λ (l : List Entry). entry_at l page) texts ∙ entry_set pages.texts page (settled (entry_at pages.texts page) seq) _ within))
+      (ap (λ (e : PageEntry). e.stable) (ap (λ (l : List PageEntry). entry_at l page) texts ∙ entry_set pages.texts page (settled (entry_at pages.texts page) seq) _ within))
       (ap (λ (l : List ℕ). take 256 (drop (page * 256) l)) over ∙ page_over pages.bytes.items bytes (page * 256) long room)
 
   beside : (k : ℕ) → k < length pages.texts → k ≢ page → kept_page renewed k ≡ kept_page pages k
   beside k less differ =
       same_page (kept_page renewed k) (kept_page pages k)
-      (ap (λ (e : Entry). e.stable) (ap (λ (l : List Entry). entry_at l k) texts ∙ entry_other pages.texts page (settled (entry_at pages.texts page) seq) _ k less differ))
+      (ap (λ (e : PageEntry). e.stable) (ap (λ (l : List PageEntry). entry_at l k) texts ∙ entry_other pages.texts page (settled (entry_at pages.texts page) seq) _ k less differ))
       (ap (λ (l : List ℕ). take 256 (drop (k * 256) l)) over ∙ page_beside pages.bytes.items bytes page k long room differ)
 
   pub kept-renewed : kept_pages renewed ≡ slice_set (kept_pages pages) page (record { sequence = seq; bytes = bytes })
@@ -65,7 +65,7 @@ module _ (pages renewed : SegmentPages) (page seq : ℕ) (bytes : List ℕ) (wit
       ])
 
 -- of a page of the segments, which was drafted
-pub renewed-kept : (segments : List SegmentPages) (content : Content) (numbers : ℕ → ℕ) (c : Change) (pages renewed : SegmentPages) (draft : Draft) →
+pub renewed-kept : (segments : List SegmentPages) (content : Content) (numbers : ℕ → ℕ) (c : RedoRange) (pages renewed : SegmentPages) (draft : Draft) →
     1 ≤ c.segment → slice_get segments (c.segment - 1) ≡ Some pages → IsDraft content numbers c draft → c.page < length pages.texts → length draft.bytes ≡ 256 → c.page * 256 + 256 ≤ length pages.bytes.items →
     renewed.texts ≡ slice_set pages.texts draft.page (settled (entry_at pages.texts draft.page) draft.seq) → renewed.bytes.items ≡ overlaid pages.bytes.items (draft.page * 256) draft.bytes →
     map kept_pages (slice_set segments (c.segment - 1) renewed) ≡ with_page c.segment c.page (new_page content numbers c.segment c.page) (map kept_pages segments)

@@ -19,10 +19,10 @@ use Rattle.lc_recover.proofs.AreaLemmas.{get-set, fits-set, begins}
 use Rattle.lc_recover.specs.Reads.{AreHonest, area_len, area_count}
 use Rattle.lc_recover.specs.Pages.{page_read, kept_page}
 use Rattle.lc_recover.specs.Shows.{ShowLogs}
-use Rattle.lc_recover.specs.Stage.{AreasFit, LogIs, ReadsWords, Rests, IsEmptied, IsResetting}
+use Rattle.lc_recover.specs.RecoveryPhase.{AreasFit, LogIs, ReadsWords, Rests, IsEmptied, IsResetting}
 use Rattle.lc_recover.specs.declared.log_resets.LogResets.{LogResets}
 use Rattle.lc_recover.specs.declared.segment_pages.SegmentPages.{SegmentPages}
-use Rattle.lc_recover.specs.declared.stage.Stage.TheVariants.{Resetting, Syncing}
+use Rattle.lc_recover.specs.declared.recovery_phase.RecoveryPhase.TheVariants.{Resetting, Syncing}
 
 pub log_len : (g : Geometry) (k : ℕ) → k < g.nodes → area_len g k ≡ Some (8 * (g.words + 1))
 log_len g k less = ap (λ (b : Bool). if b then Some (8 * (g.words + 1)) else if nat_lt k (area_count g) then Some (2 * 272 * g.pages) else None) (lt-ltb k g.nodes less)

@@ -15,12 +15,12 @@ use Rattle.lc_page.specs.declared.writing.Writing.{Writing}
 use Rattle.lc_page.specs.declared.writing.Writing.TheVariants.{AtClosing, AtClosed, AtFilling, AtFilled, AtOpening}
 use Rattle.lc_recover.proofs.AreaLemmas.{fits-set}
 use Rattle.lc_recover.specs.Pages.{AreKept, bytes_of_page}
-use Rattle.lc_recover.specs.Stage.{AreaFits, AreasFit, LogFits, SegmentFits, LogIs, IsEmptied, HasItsWords, HasItsPages, ReadsWords, RestsAt, Rests, RestsOrWrites}
+use Rattle.lc_recover.specs.RecoveryPhase.{AreaFits, AreasFit, LogFits, SegmentFits, LogIs, IsEmptied, HasItsWords, HasItsPages, ReadsWords, RestsAt, Rests, RestsOrWrites}
 use Rattle.lc_recover.specs.declared.log_resets.LogResets.{LogResets}
 use Rattle.lc_recover.specs.declared.page_writes.PageWrites.{PageWrites}
 use Rattle.lc_recover.specs.declared.segment_pages.SegmentPages.{SegmentPages}
-use Rattle.lc_recover.specs.declared.stage.Stage.{Stage}
-use Rattle.lc_recover.specs.declared.stage.Stage.TheVariants.{Syncing, Reading, Writing as WritingPages, Resetting, Done}
+use Rattle.lc_recover.specs.declared.recovery_phase.RecoveryPhase.{RecoveryPhase}
+use Rattle.lc_recover.specs.declared.recovery_phase.RecoveryPhase.TheVariants.{Syncing, Reading, Writing as WritingPages, Resetting, Done}
 
 -- functions that are the same at each place
 pub same-functions : {A B : Type 0} (f g : A → B) → ((x : A) → f x ≡ g x) → f ≡ g
@@ -90,14 +90,14 @@ module _ {D : Type 0} (a : Ghosts D) (old new : D) (now : a.now new ≡ a.now ol
         same-under_way write (entry_text (entry_at pages.texts page)) (record { sequence = (entry_at pages.texts page).stable; content = bytes_of_page pages page }) same (all.writes page write current);
   }
 
-  same-log_fits : (stage : Stage) (log : ℕ) → LogFits a stage log old → LogFits a stage log new
+  same-log_fits : (stage : RecoveryPhase) (log : ℕ) → LogFits a stage log old → LogFits a stage log new
   same-log_fits (Syncing synced) log fits = λ less. same-clean (fits less)
   same-log_fits (Reading r) log fits = same-its_words r.kept.logs.items log fits
   same-log_fits (WritingPages w) log fits = same-words (slice_index_or w.kept.logs.items log []) fits
   same-log_fits (Resetting r) log fits = same-log_is r log fits
   same-log_fits (Done f) log fits = same-emptied fits
 
-  same-segment_fits : (g : Geometry) (stage : Stage) (s : ℕ) → a.honest new ≡ a.honest old → SegmentFits a g stage s old → SegmentFits a g stage s new
+  same-segment_fits : (g : Geometry) (stage : RecoveryPhase) (s : ℕ) → a.honest new ≡ a.honest old → SegmentFits a g stage s old → SegmentFits a g stage s new
   same-segment_fits g (Syncing synced) s same fits = λ less. same-clean (fits less)
   same-segment_fits g (Reading r) s same fits = same-its_pages g r.kept.segments.items s fits
   same-segment_fits g (WritingPages w) s same fits = λ pages is. same-writes g w s pages same (fits pages is)
@@ -105,7 +105,7 @@ module _ {D : Type 0} (a : Ghosts D) (old new : D) (now : a.now new ≡ a.now ol
   same-segment_fits g (Done f) s same fits = λ pages is. same-rests g pages (fits pages is)
 
 -- an area that was read fits as before
-pub same-fits : {D : Type 0} (a : Ghosts D) (g : Geometry) (stage : Stage) (k : ℕ) (old new : D) → a.honest new ≡ a.honest old → length (a.now new) ≡ length (a.now old)
+pub same-fits : {D : Type 0} (a : Ghosts D) (g : Geometry) (stage : RecoveryPhase) (k : ℕ) (old new : D) → a.honest new ≡ a.honest old → length (a.now new) ≡ length (a.now old)
     → (a.honest old ≡ true → a.now new ≡ a.now old) → (a.honest old ≡ true → (p : ℕ) → a.dirty new p ≡ a.dirty old p) → AreaFits a g stage k old → AreaFits a g stage k new
 same-fits a g stage k old new same len now dirty fits = record {
   len = ap Some len ∙ fits.len;
@@ -118,7 +118,7 @@ same-fits a g stage k old new same len now dirty fits = record {
       same-segment_fits a old new (now was) (same-functions (a.dirty new) (a.dirty old) (dirty was)) g stage (k - g.nodes) same (fits.segment was more);
 }
 
-pub same-areas-fit : {D : Type 0} (a : Ghosts D) (g : Geometry) (stage : Stage) (areas : List D) (k : ℕ) (old new : D) → slice_get areas k ≡ Some old
+pub same-areas-fit : {D : Type 0} (a : Ghosts D) (g : Geometry) (stage : RecoveryPhase) (areas : List D) (k : ℕ) (old new : D) → slice_get areas k ≡ Some old
     → a.honest new ≡ a.honest old → length (a.now new) ≡ length (a.now old)
     → (a.honest old ≡ true → a.now new ≡ a.now old) → (a.honest old ≡ true → (p : ℕ) → a.dirty new p ≡ a.dirty old p)
     → AreasFit a g stage areas → AreasFit a g stage (slice_set areas k new)

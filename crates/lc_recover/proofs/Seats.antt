@@ -1,7 +1,7 @@
 -- The records of all logs, each at its place.
 use Rattle.std.proofs.Common.{◌≡◌, ℕ, ◌+◌, ◌<◌, List, [], ◌∷◌, ◌++◌, length, take, get_or, arith, sym, ◌∙◌, ap, append_assoc, append-nil}
 use Rattle.std.proofs.lemmas.List.{take_more, length-take-le}
-use Rattle.lc_recover.specs.Changes.{Seat, seats_of, seats_from}
+use Rattle.lc_recover.specs.Changes.{PlacedRecord, seats_of, seats_from}
 
 seats-push : (n : ℕ) (logs : List (List ℕ)) (words : List ℕ) → seats_from n (logs ++ words ∷ []) ≡ seats_from n logs ++ seats_of (n + length logs) words
 seats-push n [] words =
@@ -9,7 +9,7 @@ seats-push n [] words =
     append-nil (seats_of n words) ∙ ap (λ (k : ℕ). seats_of k words) same
 seats-push n (log ∷ logs) words =
     let same : n + 1 + length logs ≡ n + length (log ∷ logs) = omega arith in
-    ap (λ (l : List Seat). seats_of n log ++ l) (seats-push (n + 1) logs words ∙ ap (λ (k : ℕ). seats_from (n + 1) logs ++ seats_of k words) same)
+    ap (λ (l : List PlacedRecord). seats_of n log ++ l) (seats-push (n + 1) logs words ∙ ap (λ (k : ℕ). seats_from (n + 1) logs ++ seats_of k words) same)
     ∙ sym (append_assoc (seats_of n log) (seats_from (n + 1) logs) (seats_of (n + length (log ∷ logs)) words))
 
 pub seats-next : (logs : List (List ℕ)) (i : ℕ) (words : List ℕ) → i < length logs → get_or logs i [] ≡ words → seats_from 0 (take (i + 1) logs) ≡ seats_from 0 (take i logs) ++ seats_of i words

@@ -11,20 +11,20 @@ use Rattle.lc_record.specs.declared.geometry.Geometry.{Geometry}
 use Rattle.lc_record.proofs.ListLemmas.{slice_get-append_left as get-append, slice_get-take as get-take, slice_get-drop as get-drop, Contains-slice_get as contains_at}
 use Rattle.lc_page.specs.PageVector.{entry_at, settled}
 use Rattle.lc_page.specs.declared.draft.Draft.{Draft}
-use Rattle.lc_page.specs.declared.entry.Entry.{Entry}
+use Rattle.lc_page.specs.declared.page_entry.PageEntry.{PageEntry}
 use Rattle.lc_model.specs.Merge.{Page}
 use Rattle.lc_model.specs.Stored.{page_bytes}
 use Rattle.lc_model.proofs.Bytes.{same-items}
 use Rattle.lc_recover.proofs.AreaLemmas.{get-set, set-get, set-others}
 use Rattle.lc_recover.proofs.Begins.{ComesNext, its_segment, its_page, one_more, still_old, back_is, back_ascends, there}
 use Rattle.lc_recover.proofs.PagesOf.{begin_with_the_first, one_page_more}
-use Rattle.lc_recover.specs.Kept.{IsMerging}
+use Rattle.lc_recover.specs.StoreContents.{IsMerging}
 use Rattle.lc_recover.specs.Page.{IsOf, IsOfAnother, page_of, pages_of}
 use Rattle.lc_recover.specs.Pages.{bytes_of_page}
 use Rattle.lc_recover.specs.Position.{HasChange, IsBetween}
-use Rattle.lc_recover.specs.Stage.{AreTexts, AsFarAs, EachPage, IsDraft, IsNew, IsResult, IsWriting}
+use Rattle.lc_recover.specs.RecoveryPhase.{AreTexts, AsFarAs, EachPage, IsDraft, IsNew, IsResult, IsWriting}
 use Rattle.lc_recover.specs.Steps.{all_pages}
-use Rattle.lc_recover.specs.declared.change.Change.{Change}
+use Rattle.lc_recover.specs.declared.redo_range.RedoRange.{RedoRange}
 use Rattle.lc_recover.specs.declared.merged.Merged.{Merged}
 use Rattle.lc_recover.specs.declared.page_writes.PageWrites.{PageWrites}
 use Rattle.lc_recover.specs.declared.segment_pages.SegmentPages.{SegmentPages}
@@ -80,15 +80,15 @@ page_beside old bytes one other long room differ =
 
 -- Entries
 
-pub entry_set : (xs : List Entry) (k : ℕ) (e d : Entry) → k < length xs → get_or (slice_set xs k e) k d ≡ e
+pub entry_set : (xs : List PageEntry) (k : ℕ) (e d : PageEntry) → k < length xs → get_or (slice_set xs k e) k d ≡ e
 entry_set xs k e d within = get_or_from_slice_get (slice_set xs k e) k e d (set-get xs k e (get_or xs k d) (slice_get-get_or xs k d within))
 
-pub entry_other : (xs : List Entry) (k : ℕ) (e d : Entry) (j : ℕ) → j < length xs → j ≢ k → get_or (slice_set xs k e) j d ≡ get_or xs j d
+pub entry_other : (xs : List PageEntry) (k : ℕ) (e d : PageEntry) (j : ℕ) → j < length xs → j ≢ k → get_or (slice_set xs k e) j d ≡ get_or xs j d
 entry_other xs k e d j within differ = get_or_from_slice_get (slice_set xs k e) j (get_or xs j d) d (set-others xs k e j (get_or xs j d) differ (slice_get-get_or xs j d within))
 
 -- The pages
 
-module _ (g : Geometry) (w : PageWrites) (i : IsWriting g w) (c : Change) (here : List Change) (next : ComesNext w.merged.changes.items w.next here c)
+module _ (g : Geometry) (w : PageWrites) (i : IsWriting g w) (c : RedoRange) (here : List RedoRange) (next : ComesNext w.merged.changes.items w.next here c)
     (pages renewed : SegmentPages) (draft : Draft) (kept : slice_get w.kept.segments.items (c.segment - 1) ≡ Some pages)
     (is_draft : IsDraft i.content i.numbers c draft) (long : length draft.bytes ≡ 256)
     (texts : renewed.texts ≡ slice_set pages.texts draft.page (settled (entry_at pages.texts draft.page) draft.seq))
@@ -106,14 +106,14 @@ module _ (g : Geometry) (w : PageWrites) (i : IsWriting g w) (c : Change) (here 
   room = omega (arith, within, bytes_many)
 
   same_entries : length renewed.texts ≡ length pages.texts
-  same_entries = ap (λ (l : List Entry). length l) texts ∙ length-set pages.texts draft.page (settled (entry_at pages.texts draft.page) draft.seq)
+  same_entries = ap (λ (l : List PageEntry). length l) texts ∙ length-set pages.texts draft.page (settled (entry_at pages.texts draft.page) draft.seq)
 
   same_bytes : length renewed.bytes.items ≡ length pages.bytes.items
   same_bytes = ap (λ (l : List ℕ). length l) bytes ∙ overlaid_whole pages.bytes.items draft.bytes (draft.page * 256) (omega (arith, room, long))
 
   entry_is : entry_at renewed.texts c.page ≡ settled (entry_at pages.texts c.page) draft.seq
   entry_is =
-      ap (λ (l : List Entry). entry_at l c.page) texts
+      ap (λ (l : List PageEntry). entry_at l c.page) texts
       ∙ subst (λ (p : ℕ). entry_at (slice_set pages.texts p (settled (entry_at pages.texts p) draft.seq)) c.page ≡ settled (entry_at pages.texts c.page) draft.seq) (sym is_draft.page)
       (entry_set pages.texts c.page (settled (entry_at pages.texts c.page) draft.seq) _ (omega (arith, its_page g w i c next.at, entries_many)))
 
@@ -127,18 +127,18 @@ module _ (g : Geometry) (w : PageWrites) (i : IsWriting g w) (c : Change) (here 
   has_it : HasChange (i.between.front ++ here) c.segment c.page
   has_it =
       let first : slice_get here 0 ≡ Some c =
-      sym (get-append here next.first.rest 0 (omega (arith, next.some))) ∙ sym (ap (λ (l : List Change). slice_get l 0) next.first.whole) ∙ there g w i c next.at in
+      sym (get-append here next.first.rest 0 (omega (arith, next.some))) ∙ sym (ap (λ (l : List RedoRange). slice_get l 0) next.first.whole) ∙ there g w i c next.at in
       (c, Contains-append_right i.between.front here c (contains_at here 0 c first), (refl, refl))
 
   new_one : IsNew i.content i.numbers c.segment c.page (entry_at renewed.texts c.page) (bytes_of_page renewed c.page)
   new_one = record {
-    free = ap (λ (e : Entry). e.uncommitted) entry_is ∙ (still_old g w i c next.at pages kept).free;
-    sequence = ap (λ (e : Entry). e.stable) entry_is ∙ is_draft.seq;
+    free = ap (λ (e : PageEntry). e.uncommitted) entry_is ∙ (still_old g w i c next.at pages kept).free;
+    sequence = ap (λ (e : PageEntry). e.stable) entry_is ∙ is_draft.seq;
     same = bytes_is;
   }
 
   -- another page is as far as it was
-  as_far : (segment page : ℕ) (text : Page) (entry : Entry) (its : List ℕ) → ((segment ≡ c.segment) × (page ≡ c.page) → ⊥)
+  as_far : (segment page : ℕ) (text : Page) (entry : PageEntry) (its : List ℕ) → ((segment ≡ c.segment) × (page ≡ c.page) → ⊥)
       → AsFarAs i.between.front i.content i.numbers segment page text entry its → AsFarAs (i.between.front ++ here) i.content i.numbers segment page text entry its
   as_far segment page text entry its differ was =
       elim was [
@@ -163,11 +163,11 @@ module _ (g : Geometry) (w : PageWrites) (i : IsWriting g w) (c : Change) (here 
       omega (arith, slice_get_within (segment_of (c.segment - 1 + 1) i.store.pages) page text is, i.pages.shapes (c.segment - 1) (omega (arith, its_segment g w i c next.at)), entries_many) in
       let apart : page ≢ draft.page = λ same. differ (same ∙ is_draft.page) in
       let same_entry : entry_at renewed.texts page ≡ entry_at pages.texts page =
-      ap (λ (l : List Entry). entry_at l page) texts ∙ entry_other pages.texts draft.page (settled (entry_at pages.texts draft.page) draft.seq) _ page lies apart in
+      ap (λ (l : List PageEntry). entry_at l page) texts ∙ entry_other pages.texts draft.page (settled (entry_at pages.texts draft.page) draft.seq) _ page lies apart in
       let same_page : bytes_of_page renewed page ≡ bytes_of_page pages page =
       ap (λ (l : List ℕ). take 256 (drop (page * 256) l)) bytes ∙ page_beside pages.bytes.items draft.bytes draft.page page long room apart in
       as_far (c.segment - 1 + 1) page text (entry_at renewed.texts page) (bytes_of_page renewed page) (λ same. differ same.1)
-      (subst (λ (e : Entry). AsFarAs i.between.front i.content i.numbers (c.segment - 1 + 1) page text e (bytes_of_page renewed page)) (sym same_entry)
+      (subst (λ (e : PageEntry). AsFarAs i.between.front i.content i.numbers (c.segment - 1 + 1) page text e (bytes_of_page renewed page)) (sym same_entry)
       (subst (λ (l : List ℕ). AsFarAs i.between.front i.content i.numbers (c.segment - 1 + 1) page text (entry_at pages.texts page) l) (sym same_page)
       (i.pages.each (c.segment - 1) page pages text kept is)))
 
@@ -222,7 +222,7 @@ module _ (g : Geometry) (w : PageWrites) (i : IsWriting g w) (c : Change) (here 
       elim (Contains-append_cases i.between.front here before.0 before.1) [
         | inl first ↦
             i.between.apart segment page (before.0, first, before.2)
-            (behind.0, subst (λ (l : List Change). Contains l behind.0) (sym back) (Contains-append_right here next.first.rest behind.0 behind.1), behind.2)
+            (behind.0, subst (λ (l : List RedoRange). Contains l behind.0) (sym back) (Contains-append_right here next.first.rest behind.0 behind.1), behind.2)
         | inr now ↦
             (let its_page = All-contains (IsOf c.segment c.page) here before.0 (next.first.of_first c (there g w i c next.at)) now in
             All-contains (IsOfAnother c.segment c.page) next.first.rest behind.0 (next.first.no_more c (there g w i c next.at) (back_ascends g w i c next.at)) behind.1
@@ -233,7 +233,7 @@ module _ (g : Geometry) (w : PageWrites) (i : IsWriting g w) (c : Change) (here 
   between_now = record {
     front = i.between.front ++ here;
     back = next.first.rest;
-    all = i.between.all ∙ ap (λ (l : List Change). i.between.front ++ l) (sym (back_is g w i c next.at) ∙ next.first.whole) ∙ sym (append_assoc i.between.front here next.first.rest);
+    all = i.between.all ∙ ap (λ (l : List RedoRange). i.between.front ++ l) (sym (back_is g w i c next.at) ∙ next.first.whole) ∙ sym (append_assoc i.between.front here next.first.rest);
     count = length-append i.between.front here ∙ ap (λ (n : ℕ). n + length here) i.between.count;
     apart = apart_now;
   }
@@ -265,19 +265,19 @@ module _ (g : Geometry) (w : PageWrites) (i : IsWriting g w) (c : Change) (here 
 -- The pages that are left, where one more is written
 
 -- the page that is written was the first of those that were left
-pub left_renewed : (g : Geometry) (w : PageWrites) (i : IsWriting g w) (c : Change) (here : List Change) → ComesNext w.merged.changes.items w.next here c
+pub left_renewed : (g : Geometry) (w : PageWrites) (i : IsWriting g w) (c : RedoRange) (here : List RedoRange) → ComesNext w.merged.changes.items w.next here c
     → pages_of (drop w.next w.merged.changes.items) ≡ page_of c ∷ pages_of (drop (w.next + length here) w.merged.changes.items)
 left_renewed g w i c here next =
     begin_with_the_first (drop w.next w.merged.changes.items) here c next.first (there g w i c next.at) (back_ascends g w i c next.at)
-    ∙ ap (λ (l : List Change). page_of c ∷ pages_of l) (drop-drop (length here) w.next w.merged.changes.items)
+    ∙ ap (λ (l : List RedoRange). page_of c ∷ pages_of l) (drop-drop (length here) w.next w.merged.changes.items)
 
-pub pages_stay : (g : Geometry) (w : PageWrites) (i : IsWriting g w) (c : Change) (here : List Change) → ComesNext w.merged.changes.items w.next here c
+pub pages_stay : (g : Geometry) (w : PageWrites) (i : IsWriting g w) (c : RedoRange) (here : List RedoRange) → ComesNext w.merged.changes.items w.next here c
     → w.written + 1 + length (pages_of (drop (w.next + length here) w.merged.changes.items)) ≡ all_pages w
 pages_stay g w i c here next =
-    let left : List Change = drop w.next w.merged.changes.items in
+    let left : List RedoRange = drop w.next w.merged.changes.items in
     let some : 1 ≤ length (drop w.next w.merged.changes.items) = (let less : 0 < length left = slice_get_within left 0 c (there g w i c next.at) in omega (arith, less)) in
     let more : length (pages_of (drop w.next w.merged.changes.items)) ≡ 1 + length (pages_of (drop (length here) (drop w.next w.merged.changes.items))) =
     one_page_more left here next.first some (back_ascends g w i c next.at) in
     let same : length (pages_of (drop (length here) (drop w.next w.merged.changes.items))) ≡ length (pages_of (drop (w.next + length here) w.merged.changes.items)) =
-    ap (λ (l : List Change). length (pages_of l)) (drop-drop (length here) w.next w.merged.changes.items) in
+    ap (λ (l : List RedoRange). length (pages_of l)) (drop-drop (length here) w.next w.merged.changes.items) in
     omega (arith, more, same)

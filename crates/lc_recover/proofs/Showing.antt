@@ -14,7 +14,7 @@ use Rattle.lc_record.proofs.ListLemmas.{slice_get_some as get-some, slice_get-ma
 use Rattle.lc_log.specs.LogText.{IsLogText}
 use Rattle.lc_log.proofs.LogLemmas.{at_rest_none}
 use Rattle.lc_log.proofs.StateLemmas.{rest_image}
-use Rattle.lc_model.specs.Merge.{Page, Store}
+use Rattle.lc_model.specs.Merge.{Page, StoreText}
 use Rattle.lc_model.specs.Stored.{page_bytes}
 use Rattle.lc_page.specs.Page.{Page as AreaPage, page_in}
 use Rattle.lc_page.specs.PageVector.{entry_at, entry_text}
@@ -29,14 +29,14 @@ use Rattle.lc_recover.proofs.Images.{HoldBytes, len-none, len-log, len-segment}
 use Rattle.lc_recover.specs.Pages.{page_read, kept_page, bytes_of_page}
 use Rattle.lc_recover.specs.Reads.{AllMergeTo, AreHonest, HaveLengths}
 use Rattle.lc_recover.specs.Shows.{ShowPages, ShowLogs, new_page}
-use Rattle.lc_recover.specs.Stage.{AreTexts, AreasFit, AreaFits, AsFarAs, IsWhole, IsCurrent, IsDraft, IsWriting, IsResetting, IsEmptied, ReadsWords, RestsAt, Rests, RestsOrWrites, SegmentFits}
-use Rattle.lc_recover.specs.declared.change.Change.{Change}
+use Rattle.lc_recover.specs.RecoveryPhase.{AreTexts, AreasFit, AreaFits, AsFarAs, IsWhole, IsCurrent, IsDraft, IsWriting, IsResetting, IsEmptied, ReadsWords, RestsAt, Rests, RestsOrWrites, SegmentFits}
+use Rattle.lc_recover.specs.declared.redo_range.RedoRange.{RedoRange}
 use Rattle.lc_recover.specs.declared.finished.Finished.{Finished}
 use Rattle.lc_recover.specs.declared.log_resets.LogResets.{LogResets}
 use Rattle.lc_recover.specs.declared.page_writes.PageWrites.{PageWrites}
 use Rattle.lc_recover.specs.declared.segment_pages.SegmentPages.{SegmentPages}
-use Rattle.lc_recover.specs.declared.stage.Stage.{Stage}
-use Rattle.lc_recover.specs.declared.stage.Stage.TheVariants.{Writing as WritingPages, Resetting, Done}
+use Rattle.lc_recover.specs.declared.recovery_phase.RecoveryPhase.{RecoveryPhase}
+use Rattle.lc_recover.specs.declared.recovery_phase.RecoveryPhase.TheVariants.{Writing as WritingPages, Resetting, Done}
 
 -- a page of an area as it is kept
 kept-as : (area : List ℕ) (pages : SegmentPages) (page : ℕ) → (page_in area page).sequence ≡ (entry_at pages.texts page).stable → (page_in area page).content ≡ bytes_of_page pages page → page_read area page ≡ kept_page pages page
@@ -55,12 +55,12 @@ is_current g w i segment page =
                   | inl here ↦ inl (some.0, (some.1, (draft.0, draft.1, of), here))
                   | inr other ↦ inr (λ write is. other (ap (λ (x : Writing). (draft_of x).page) (one_item some.0 write (sym some.1 ∙ is.0)) ∙ is.2))
                 ])
-            | inr other ↦ inr (λ write is. other (ap (λ (c : Change). c.segment) (one_item draft.0 is.1.0 (sym draft.1 ∙ is.1.1)) ∙ is.1.2))
+            | inr other ↦ inr (λ write is. other (ap (λ (c : RedoRange). c.segment) (one_item draft.0 is.1.0 (sym draft.1 ∙ is.1.1)) ∙ is.1.2))
           ])
     ]
 
 module _ {D : Type 0} (a : Ghosts D) (g : Geometry) where
-  pub have-lengths : (stage : Stage) (areas : List D) → AreasFit a g stage areas → HaveLengths a g areas
+  pub have-lengths : (stage : RecoveryPhase) (areas : List D) → AreasFit a g stage areas → HaveLengths a g areas
   have-lengths stage areas fits k =
       elim (cases_lt k (length areas)) [
         | inl within ↦
@@ -71,7 +71,7 @@ module _ {D : Type 0} (a : Ghosts D) (g : Geometry) where
             ∙ sym (len-none g k (omega (arith, past, fits.count)))
       ]
 
-  pub hold-bytes : (stage : Stage) (areas : List D) → AreasFit a g stage areas → AreHonest a areas → HoldBytes a areas
+  pub hold-bytes : (stage : RecoveryPhase) (areas : List D) → AreasFit a g stage areas → AreHonest a areas → HoldBytes a areas
   hold-bytes stage areas fits honest = λ area device is. (fits.each area device is).bytes (honest area device is)
 
   -- an image of a page that rests has it as it is kept
@@ -81,12 +81,12 @@ module _ {D : Type 0} (a : Ghosts D) (g : Geometry) where
       kept-as image pages page (ap (λ (t : PageText). t.seq) both.0) (ap (λ (p : AreaPage). p.content) both.1 ∙ rests.content)
 
   -- the area of a segment
-  record OfSegment (stage : Stage) (s : ℕ) (area : D) : Type 0 where
+  record OfSegment (stage : RecoveryPhase) (s : ℕ) (area : D) : Type 0 where
     known : s < g.segments
     len : length (a.now area) ≡ 2 * 272 * g.pages
     fits : SegmentFits a g stage s area
 
-  of-segment : (stage : Stage) (areas : List D) → AreasFit a g stage areas → (s : ℕ) (area : D) → slice_get areas (g.nodes + s) ≡ Some area → a.honest area ≡ true → OfSegment stage s area
+  of-segment : (stage : RecoveryPhase) (areas : List D) → AreasFit a g stage areas → (s : ℕ) (area : D) → slice_get areas (g.nodes + s) ≡ Some area → a.honest area ≡ true → OfSegment stage s area
   of-segment stage areas fits s area is honest =
       let known : s < g.segments = omega (arith, slice_get_within areas (g.nodes + s) area is, fits.count) in
       let one : AreaFits a g stage (g.nodes + s) area = fits.each (g.nodes + s) area is in
@@ -114,7 +114,7 @@ module _ {D : Type 0} (a : Ghosts D) (g : Geometry) where
     draft-new segment page write is image written =
         let draft = i.drafts write is.0 in
         let its : IsDraft i.content i.numbers draft.0 (draft_of write) = draft.2 in
-        let of : draft.0.segment ≡ segment = ap (λ (c : Change). c.segment) (one_item draft.0 is.1.0 (sym draft.1 ∙ is.1.1)) ∙ is.1.2 in
+        let of : draft.0.segment ≡ segment = ap (λ (c : RedoRange). c.segment) (one_item draft.0 is.1.0 (sym draft.1 ∙ is.1.1)) ∙ is.1.2 in
         let here : draft.0.page ≡ page = sym its.page ∙ is.2 in
         same_page (page_read image page) (new_page i.content i.numbers segment page)
         (ap (λ (p : AreaPage). p.sequence) written ∙ its.seq ∙ ap i.numbers of)
@@ -156,7 +156,7 @@ module _ {D : Type 0} (a : Ghosts D) (g : Geometry) where
   emptied-text area long emptied image of =
       rest_image (a.now area) (a.dirty area) 0 [] (at_rest_none (a.now area) (a.dirty area) long emptied.closed (emptied.clean 0)) image of
 
-  log-long : (stage : Stage) (log : ℕ) (area : D) → AreaFits a g stage log area → log < g.nodes → 8 ≤ length (a.now area)
+  log-long : (stage : RecoveryPhase) (log : ℕ) (area : D) → AreaFits a g stage log area → log < g.nodes → 8 ≤ length (a.now area)
   log-long stage log area fits within =
       let len : length (a.now area) ≡ 8 * (g.words + 1) = one_item (length (a.now area)) (8 * (g.words + 1)) (fits.len ∙ len-log g log within) in
       omega (arith, len)
@@ -182,7 +182,7 @@ module _ {D : Type 0} (a : Ghosts D) (g : Geometry) where
         rests-as pages area page (rests.rests page within) image of);
   }
 
-  pub done-shows : (f : Finished) (areas : List D) → AreasFit a g (Done f) areas → AreHonest a areas → (store : Store) → ShowLogs a g areas store f.segments.items
+  pub done-shows : (f : Finished) (areas : List D) → AreasFit a g (Done f) areas → AreHonest a areas → (store : StoreText) → ShowLogs a g areas store f.segments.items
   done-shows f areas fits honest store = record {
     logs = λ log area within is own image of.
         (let one : AreaFits a g (Done f) log area = fits.each log area is in
@@ -206,7 +206,7 @@ module _ {D : Type 0} (a : Ghosts D) (g : Geometry) where
       show_logs-merge a g areas r.logs.items i.store r.segments.items r.numbers.items (have-lengths a g (Resetting r) areas fits) honest i.texts i.whole (resetting-shows a g r areas fits honest i)
 
   -- of a store that was read from the texts of logs
-  pub done-merges : (f : Finished) (areas : List D) → AreasFit a g (Done f) areas → AreHonest a areas → (logs : List (List ℕ)) (store : Store) → AreTexts g logs store → (whole : IsWhole g f.segments.items f.numbers.items store)
+  pub done-merges : (f : Finished) (areas : List D) → AreasFit a g (Done f) areas → AreHonest a areas → (logs : List (List ℕ)) (store : StoreText) → AreTexts g logs store → (whole : IsWhole g f.segments.items f.numbers.items store)
       → AllMergeTo a g areas whole.content whole.numbers
   done-merges f areas fits honest logs store texts whole =
       show_logs-merge a g areas logs store f.segments.items f.numbers.items (have-lengths a g (Done f) areas fits) honest texts whole (done-shows a g f areas fits honest store)

@@ -7,12 +7,12 @@ use Rattle.lc_recover.proofs.ReadLemmas.{count-read}
 use Rattle.lc_recover.specs.Page.{pages_of}
 use Rattle.lc_recover.specs.Recovery.{all_steps, IsGoing}
 use Rattle.lc_recover.specs.Steps.{all_pages, calls_done, steps_of}
-use Rattle.lc_recover.specs.declared.stage.Stage.{Stage}
-use Rattle.lc_recover.specs.declared.stage.Stage.TheVariants.{Syncing, Reading, Writing as WritingPages, Resetting, Done}
+use Rattle.lc_recover.specs.declared.recovery_phase.RecoveryPhase.{RecoveryPhase}
+use Rattle.lc_recover.specs.declared.recovery_phase.RecoveryPhase.TheVariants.{Syncing, Reading, Writing as WritingPages, Resetting, Done}
 
 module _ {D : Type 0} (a : Ghosts D) (g : Geometry) (areas : List D) where
   -- those of a recovery that writes each page of the store
-  pub steps-bound : (stage : Stage) → IsGoing a g stage areas → steps_of g stage ≤ all_steps g (g.segments * g.pages)
+  pub steps-bound : (stage : RecoveryPhase) → IsGoing a g stage areas → steps_of g stage ≤ all_steps g (g.segments * g.pages)
   steps-bound (Syncing synced) going = omega (arith, going.fits.1)
   steps-bound (Reading r) going = omega (arith, count-read g going.fits.1.0 r going.fits.1.2, going.fits.1.1.count)
   steps-bound (WritingPages w) going =

@@ -6,7 +6,7 @@ use Rattle.std.proofs.lemmas.Option.{same_Some as one_item}
 use Rattle.lc_disk.specs.declared.area.Area.{Ghosts}
 use Rattle.lc_recover.specs.Reads.{AreHonest}
 use Rattle.lc_recover.specs.Recovery.{Recovering, IsMergeNext, MakesItsCall}
-use Rattle.lc_recover.specs.Stage.{OneCall}
+use Rattle.lc_recover.specs.RecoveryPhase.{OneCall}
 use Rattle.lc_recover.specs.Steps.{first_steps}
 use Rattle.lc_recover.proofs.AreaLemmas.{each-set, set-get, set-others}
 

@@ -6,15 +6,15 @@ use Rattle.lc_disk.specs.declared.area.Area.{Ghosts}
 use Rattle.lc_record.specs.declared.geometry.Geometry.{Geometry}
 use Rattle.lc_recover.proofs.ReadLemmas.{counted-none, read-none, same-kept}
 use Rattle.lc_recover.specs.KeptAreas.{IsCounted}
-use Rattle.lc_recover.specs.Stage.{AreasFit, Fits, HasItsPages, HasItsWords}
+use Rattle.lc_recover.specs.RecoveryPhase.{AreasFit, Fits, HasItsPages, HasItsWords}
 use Rattle.lc_recover.specs.Steps.{steps_of, pages_in, pages_left, pages_kept, HasNext}
 use Rattle.lc_recover.specs.Stopped.{IsStopped}
 use Rattle.lc_recover.specs.declared.fault.RecoverFault.{RecoverFault}
 use Rattle.lc_recover.specs.declared.fault.RecoverFault.TheVariants.{BadGeometry, Gap, Twice, OutOfSegment, DeviceFault, NoMemory}
 use Rattle.lc_recover.specs.declared.read_areas.ReadAreas.{ReadAreas}
 use Rattle.lc_recover.specs.declared.segment_pages.SegmentPages.{SegmentPages}
-use Rattle.lc_recover.specs.declared.stage.Stage.{Stage}
-use Rattle.lc_recover.specs.declared.stage.Stage.TheVariants.{Syncing, Reading}
+use Rattle.lc_recover.specs.declared.recovery_phase.RecoveryPhase.{RecoveryPhase}
+use Rattle.lc_recover.specs.declared.recovery_phase.RecoveryPhase.TheVariants.{Syncing, Reading}
 use Rattle.lc_recover.specs.declared.stopped.Stopped.{Stopped}
 
 wants_memory : RecoverFault → ℕ
@@ -93,7 +93,7 @@ module _ {D : Type 0} (a : Ghosts D) (g : Geometry) where
   )
 
   -- where memory was wanted the recovery stays in a part like the one before
-  pub stopped-fits : (olds news : List D) (stage stay : Stage) (stopped : Stopped) → AreasFit a g (Syncing 0) news →
+  pub stopped-fits : (olds news : List D) (stage stay : RecoveryPhase) (stopped : Stopped) → AreasFit a g (Syncing 0) news →
       (stopped.fault ≡ NoMemory → (news ≡ olds) × Fits a g stay news) → HasNext g stay → pages_in stay ≡ None → pages_kept stay ≡ [] → pages_left stay ≡ [] → (stopped.fault ≡ NoMemory → steps_of g stay ≡ steps_of g stage) →
       (stopped.fault ≡ NoMemory → stopped.stage ≡ stay) → ((stopped.fault ≡ NoMemory → ⊥) → stopped.stage ≡ Syncing 0) →
       IsStopped a g stage olds news stopped
@@ -102,8 +102,8 @@ module _ {D : Type 0} (a : Ghosts D) (g : Geometry) where
         | inl wants ↦
             let is : stopped.stage ≡ stay = kept wants in
             record {
-              fits = subst (λ (s : Stage). Fits a g s news) (sym is) (same wants).1;
-              next = subst (λ (s : Stage). HasNext g s) (sym is) next;
+              fits = subst (λ (s : RecoveryPhase). Fits a g s news) (sym is) (same wants).1;
+              next = subst (λ (s : RecoveryPhase). HasNext g s) (sym is) next;
               pages = ap pages_in is ∙ pages;
               kept = ap pages_kept is ∙ none_kept;
               left = ap pages_left is ∙ none_left;
@@ -113,8 +113,8 @@ module _ {D : Type 0} (a : Ghosts D) (g : Geometry) where
         | inr not ↦
             let is : stopped.stage ≡ Syncing 0 = again not in
             record {
-              fits = subst (λ (s : Stage). Fits a g s news) (sym is) (first-fits news first);
-              next = subst (λ (s : Stage). HasNext g s) (sym is) tt;
+              fits = subst (λ (s : RecoveryPhase). Fits a g s news) (sym is) (first-fits news first);
+              next = subst (λ (s : RecoveryPhase). HasNext g s) (sym is) tt;
               pages = ap pages_in is;
               kept = ap pages_kept is;
               left = ap pages_left is;

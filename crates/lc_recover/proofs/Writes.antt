@@ -16,7 +16,7 @@ use Rattle.lc_page.specs.PageWrite.{KeepsPage, HasPage, IsEither, IsSettled, dra
 use Rattle.lc_page.specs.Writing.{draft_of, IsNextOf, IsUnderWay, GoesOn, IsOver}
 use Rattle.lc_page.specs.declared.page_text.PageText.{PageText}
 use Rattle.lc_page.specs.declared.draft.Draft.{Draft}
-use Rattle.lc_page.specs.declared.entry.Entry.{Entry}
+use Rattle.lc_page.specs.declared.page_entry.PageEntry.{PageEntry}
 use Rattle.lc_page.specs.declared.writing.Writing.{Writing}
 use Rattle.lc_page.proofs.StateLemmas.{settled_reads, kept_settled, kept_page}
 use Rattle.lc_recover.proofs.AreaLemmas.{set-get, set-others, get-set, fits-set, begins}
@@ -26,19 +26,19 @@ use Rattle.lc_recover.proofs.Bridge.{same_page as same_stored}
 use Rattle.lc_recover.proofs.Showing.{rests-as, kept-or_new, writing-shows}
 use Rattle.lc_recover.proofs.Images.{in-segment, len-segment}
 use Rattle.lc_recover.proofs.Settles.{page_over, page_beside, entry_set, entry_other}
-use Rattle.lc_recover.specs.Kept.{IsChange}
+use Rattle.lc_recover.specs.StoreContents.{IsChange}
 use Rattle.lc_recover.specs.Pages.{bytes_of_page, page_read, kept_page as page_kept}
 use Rattle.lc_recover.specs.Reads.{AreHonest}
 use Rattle.lc_recover.specs.Shows.{ShowPages, new_page}
-use Rattle.lc_recover.specs.Stage.{AreaFits, AreasFit, ReadsWords, RestsAt, RestsOrWrites, IsCurrent, IsDraft, IsNext, IsWriting}
-use Rattle.lc_recover.specs.declared.change.Change.{Change}
+use Rattle.lc_recover.specs.RecoveryPhase.{AreaFits, AreasFit, ReadsWords, RestsAt, RestsOrWrites, IsCurrent, IsDraft, IsNext, IsWriting}
+use Rattle.lc_recover.specs.declared.redo_range.RedoRange.{RedoRange}
 use Rattle.lc_recover.specs.declared.page_writes.PageWrites.{PageWrites}
 use Rattle.lc_recover.specs.declared.segment_pages.SegmentPages.{SegmentPages}
-use Rattle.lc_recover.specs.declared.stage.Stage.TheVariants.{Writing as WritingPages, Syncing}
+use Rattle.lc_recover.specs.declared.recovery_phase.RecoveryPhase.TheVariants.{Writing as WritingPages, Syncing}
 
 -- the change that comes next, of a page of the store
 pub record Next (g : Geometry) (w : PageWrites) : Type 0 where
-  pub its : Change
+  pub its : RedoRange
   pub pages : SegmentPages
   pub is : IsNext w its pages
   pub known : its.segment ≤ g.segments
@@ -63,7 +63,7 @@ next-of g w i left =
 
 -- the write of the next page may be any of this draft
 pub with-current : (g : Geometry) (w : PageWrites) (i : IsWriting g w) (o : Option Writing)
-    → ((write : Writing) → o ≡ Some write → (c : Change) × (slice_get w.merged.changes.items w.next ≡ Some c) × IsDraft i.content i.numbers c (draft_of write)) → IsWriting g (record w { current = o })
+    → ((write : Writing) → o ≡ Some write → (c : RedoRange) × (slice_get w.merged.changes.items w.next ≡ Some c) × IsDraft i.content i.numbers c (draft_of write)) → IsWriting g (record w { current = o })
 with-current g w i o drafts = record {
   store = i.store;
   content = i.content;
@@ -79,8 +79,8 @@ with-current g w i o drafts = record {
 
 -- nothing is written of the next page yet, or no more, and this is its draft
 pub with-none : (g : Geometry) (w : PageWrites) (i : IsWriting g w) (o : Option Writing) → o ≡ None → (draft : Draft)
-    → ((c : Change) → slice_get w.merged.changes.items w.next ≡ Some c → IsDraft i.content i.numbers c draft)
-    → (later : IsWriting g (record w { current = o })) × ((c : Change) (pages : SegmentPages) → IsNext (record w { current = o }) c pages → IsDraft later.content later.numbers c draft)
+    → ((c : RedoRange) → slice_get w.merged.changes.items w.next ≡ Some c → IsDraft i.content i.numbers c draft)
+    → (later : IsWriting g (record w { current = o })) × ((c : RedoRange) (pages : SegmentPages) → IsNext (record w { current = o }) c pages → IsDraft later.content later.numbers c draft)
 unfolding with-current
 with-none g w i o none draft drafted =
     (with-current g w i o (λ other is. absurd (none-some other (sym none ∙ is))), λ c pages is. drafted c is.change)
@@ -116,10 +116,10 @@ module _ {D : Type 0} (a : Ghosts D) where
           segment = λ alive more none. absurd (omega (arith, none));
         })
 
-    module _ (c : Change) (pages : SegmentPages) (next : IsNext w c pages) (here : k + 1 ≡ g.nodes + c.segment) where
+    module _ (c : RedoRange) (pages : SegmentPages) (next : IsNext w c pages) (here : k + 1 ≡ g.nodes + c.segment) where
       -- the segment is the only one of which a page may be written
       not-elsewhere : (o : Option Writing) (s : ℕ) → s + 1 ≢ c.segment → (page : ℕ) (write : Writing) → IsCurrent (record w { current = o }) (s + 1) page write → ⊥
-      not-elsewhere o s differ page write is = differ (sym is.1.2 ∙ ap (λ (d : Change). d.segment) (one_item is.1.0 c (sym is.1.1 ∙ next.change)))
+      not-elsewhere o s differ page write is = differ (sym is.1.2 ∙ ap (λ (d : RedoRange). d.segment) (one_item is.1.0 c (sym is.1.1 ∙ next.change)))
 
       pub rests-of : (page : ℕ) → page < g.pages → a.honest old ≡ true → ((write : Writing) → IsCurrent w c.segment page write → ⊥) → RestsAt a pages old page
       rests-of page within alive none =
@@ -208,7 +208,7 @@ module _ {D : Type 0} (a : Ghosts D) where
           (long : length (draft_of write).bytes ≡ 256) (entries : length pages.texts ≡ g.pages) (room : length pages.bytes.items ≡ g.pages * 256) (lies : c.page < g.pages) where
         entry-renewed : entry_at renewed.texts c.page ≡ settled (entry_at pages.texts c.page) (draft_of write).seq
         entry-renewed =
-            ap (λ (l : List Entry). entry_at l c.page) texts
+            ap (λ (l : List PageEntry). entry_at l c.page) texts
             ∙ subst (λ (p : ℕ). entry_at (slice_set pages.texts p (settled (entry_at pages.texts p) (draft_of write).seq)) c.page ≡ settled (entry_at pages.texts c.page) (draft_of write).seq) (sym is.2)
             (entry_set pages.texts c.page (settled (entry_at pages.texts c.page) (draft_of write).seq) _ (omega (arith, lies, entries)))
 
@@ -221,7 +221,7 @@ module _ {D : Type 0} (a : Ghosts D) where
         over-own : a.honest new ≡ true → IsOver a new (draft_of write) (entry_text (entry_at pages.texts c.page)) → RestsAt a renewed new c.page
         over-own alive over = record {
           settled =
-              subst (λ (e : Entry). IsSettled (a.now new) (a.dirty new) c.page (entry_text e)) (sym entry-renewed)
+              subst (λ (e : PageEntry). IsSettled (a.now new) (a.dirty new) c.page (entry_text e)) (sym entry-renewed)
               (subst (λ (n : ℕ). IsSettled (a.now new) (a.dirty new) n (settled_text (entry_text (entry_at pages.texts c.page)) (draft_of write).seq)) is.2 (over.settled alive));
           content =
               ap (λ (n : ℕ). (page_in (a.now new) n).content) (sym is.2) ∙ ap (λ (q : Page). q.content) (over.page alive).reads ∙ sym bytes-renewed;
@@ -231,13 +231,13 @@ module _ {D : Type 0} (a : Ghosts D) where
         over-other page within differ rests =
             let apart : page ≢ (draft_of write).page = λ same. differ (same ∙ is.2) in
             let entry : entry_at renewed.texts page ≡ entry_at pages.texts page =
-            ap (λ (l : List Entry). entry_at l page) texts
+            ap (λ (l : List PageEntry). entry_at l page) texts
             ∙ entry_other pages.texts (draft_of write).page (settled (entry_at pages.texts (draft_of write).page) (draft_of write).seq) _ page (omega (arith, within, entries)) apart in
             let beside : bytes_of_page renewed page ≡ bytes_of_page pages page =
             ap (λ (l : List ℕ). take 256 (drop (page * 256) l)) kept
             ∙ page_beside pages.bytes.items (draft_of write).bytes (draft_of write).page page long (omega (arith, is.2, lies, room)) apart in
             record {
-              settled = subst (λ (e : Entry). IsSettled (a.now new) (a.dirty new) page (entry_text e)) (sym entry) rests.settled;
+              settled = subst (λ (e : PageEntry). IsSettled (a.now new) (a.dirty new) page (entry_text e)) (sym entry) rests.settled;
               content = rests.content ∙ sym beside;
             }
 
@@ -271,7 +271,7 @@ module _ {D : Type 0} (a : Ghosts D) where
               writes = λ page other at. absurd (none-some other (sym none ∙ at.0));
             })))
 
-pub segment-room : {D : Type 0} (a : Ghosts D) (g : Geometry) (w : PageWrites) (c : Change) (k : ℕ) (area : D) → AreaFits a g (WritingPages w) k area → 1 ≤ c.segment → c.segment ≤ g.segments → k + 1 ≡ g.nodes + c.segment → length (a.now area) ≡ 2 * 272 * g.pages
+pub segment-room : {D : Type 0} (a : Ghosts D) (g : Geometry) (w : PageWrites) (c : RedoRange) (k : ℕ) (area : D) → AreaFits a g (WritingPages w) k area → 1 ≤ c.segment → c.segment ≤ g.segments → k + 1 ≡ g.nodes + c.segment → length (a.now area) ≡ 2 * 272 * g.pages
 segment-room a g w c k area fits some known here =
     one_item (length (a.now area)) (2 * 272 * g.pages) (fits.len ∙ len-segment g k (omega (arith, here, some)) (omega (arith, here, known)))
 
@@ -290,7 +290,7 @@ some-of o some none = absurd (true≢false (sym some ∙ ap (λ (x : Option Writ
 -- What a stop leaves after a call of a page
 
 module _ {D : Type 0} (a : Ghosts D) (g : Geometry) (w : PageWrites) (areas : List D) (k : ℕ) (old new : D) (was : slice_get areas k ≡ Some old) (fits : AreasFit a g (WritingPages w) areas) (honest : a.honest new ≡ a.honest old) (len : length (a.now new) ≡ length (a.now old)) (bytes : a.honest new ≡ true → (at : ℕ) → slice_index_or (a.now new) at 0 < 256)
-    (i : IsWriting g w) (c : Change) (pages : SegmentPages) (next : IsNext w c pages) (here : k + 1 ≡ g.nodes + c.segment) (alive : AreHonest a (slice_set areas k new)) where
+    (i : IsWriting g w) (c : RedoRange) (pages : SegmentPages) (next : IsNext w c pages) (here : k + 1 ≡ g.nodes + c.segment) (alive : AreHonest a (slice_set areas k new)) where
   honest-new : a.honest new ≡ true
   honest-new = alive k new (set-get areas k new old was)
 
@@ -357,7 +357,7 @@ module _ {D : Type 0} (a : Ghosts D) (g : Geometry) (w : PageWrites) (areas : Li
       → ShowPages a g (slice_set areas k new) i.store i.content i.numbers
   goes-on-shows write current others page =
       let d = i.drafts write current in
-      let draft : IsDraft i.content i.numbers c (draft_of write) = subst (λ (x : Change). IsDraft i.content i.numbers x (draft_of write)) (one_item d.0 c (sym d.1 ∙ next.change)) d.2 in
+      let draft : IsDraft i.content i.numbers c (draft_of write) = subst (λ (x : RedoRange). IsDraft i.content i.numbers x (draft_of write)) (one_item d.0 c (sym d.1 ∙ next.change)) d.2 in
       let is : IsCurrent w c.segment c.page write = (current, (c, next.change, refl), draft.page) in
       call-shows
       (λ other differ. others other (λ same. differ (same ∙ draft.page)))

@@ -1,6 +1,6 @@
 -- The numbers of the faults, the refusals to them, and which of them a merge of all logs answers.
 use Rattle.std.specs.Prelude.{ℕ, Option, Some, None}
-use Rattle.lc_model.specs.Merge.{Store, Refuses, BadGeometry as IsOther, OutOfSegment as IsOutside, Twice as IsTwice, Gap as IsGap}
+use Rattle.lc_model.specs.Merge.{StoreText, Refuses, BadGeometry as IsOther, OutOfSegment as IsOutside, Twice as IsTwice, Gap as IsGap}
 use Rattle.lc_model.specs.declared.refusal.Refusal.{Refusal}
 use Rattle.lc_recover.specs.declared.fault.RecoverFault.{RecoverFault}
 use Rattle.lc_recover.specs.declared.fault.RecoverFault.TheVariants.{BadGeometry, Gap, Twice, OutOfSegment, DeviceFault, NoMemory}
@@ -24,7 +24,7 @@ refusal_to DeviceFault = Some Refusal.DeviceFault
 refusal_to NoMemory = None
 
 -- the merge of the store is refused so, or memory was wanted
-abbrev pub IsRefusal : Store → RecoverFault → Type 0
+abbrev pub IsRefusal : StoreText → RecoverFault → Type 0
 IsRefusal store (BadGeometry area) = Refuses store (IsOther area)
 IsRefusal store (Gap segment seq) = Refuses store (IsGap segment seq)
 IsRefusal store (Twice segment seq) = Refuses store (IsTwice segment seq)

@@ -2,16 +2,16 @@
 use Rattle.std.specs.Prelude.{◌≡◌, ℕ, ◌-◌, ◌≤◌, List, Some, slice_get, slice_index_or}
 use Rattle.lc_record.specs.Content.{Content, segment_of}
 use Rattle.lc_record.specs.declared.geometry.Geometry.{Geometry}
-use Rattle.lc_model.specs.Merge.{Page, Store, MergesTo}
+use Rattle.lc_model.specs.Merge.{Page, StoreText, MergesTo}
 use Rattle.lc_model.specs.Recovered.{IsBehind}
 use Rattle.lc_recover.specs.Reading.{store_of}
-use Rattle.lc_recover.specs.Stage.{IsWriting}
+use Rattle.lc_recover.specs.RecoveryPhase.{IsWriting}
 use Rattle.lc_recover.specs.declared.page_writes.PageWrites.{PageWrites}
 
 -- the store that was read, and the number of each segment after its recovery, from segment 1 on
 pub record Foretold : Type 0 where
   pub geometry : Geometry
-  pub store : Store
+  pub store : StoreText
   pub sequences : List ℕ
 
 -- as the page writes of a recovery have it
@@ -23,7 +23,7 @@ abbrev pub sequence_of : Foretold → ℕ → ℕ
 sequence_of f segment = slice_index_or f.sequences (segment - 1) 0
 
 -- some record is newer than this page of the store
-abbrev pub IsPageBehind : Store → ℕ → ℕ → Type 0
+abbrev pub IsPageBehind : StoreText → ℕ → ℕ → Type 0
 IsPageBehind store segment page = (text : Page) × (slice_get (segment_of segment store.pages) page ≡ Some text) × IsBehind store segment page text
 
 -- the store merges to some result, of which these are the numbers

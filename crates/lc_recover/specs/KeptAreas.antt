@@ -10,7 +10,7 @@ use Rattle.lc_recover.specs.Locks.{numbers_in, greatest_kept}
 use Rattle.lc_recover.specs.Pages.{AreKept}
 use Rattle.lc_recover.specs.Reading.{store_of}
 use Rattle.lc_recover.specs.Reads.{area_count, area_len, AreHonest}
-use Rattle.lc_recover.specs.declared.kept.Kept.{Kept}
+use Rattle.lc_recover.specs.declared.store_contents.StoreContents.{StoreContents}
 use Rattle.lc_recover.specs.declared.read_areas.ReadAreas.{ReadAreas}
 use Rattle.lc_recover.specs.declared.segment_pages.SegmentPages.{SegmentPages}
 
@@ -20,7 +20,7 @@ pub record AreAllKept (pages : ℕ) (areas : List (List ℕ)) (segments : List S
   pub each : (s : ℕ) (area : List ℕ) (kept : SegmentPages) → slice_get areas s ≡ Some area → slice_get segments s ≡ Some kept → AreKept area pages kept
 
 -- what is kept of areas that read as these bytes, be they all or the first ones
-pub record IsRead (g : Geometry) (areas : List (List ℕ)) (kept : Kept) : Type 0 where
+pub record IsRead (g : Geometry) (areas : List (List ℕ)) (kept : StoreContents) : Type 0 where
   pub logs : kept.logs.items ≡ map words_of (take g.nodes areas)
   pub segments : AreAllKept g.pages (drop g.nodes areas) kept.segments.items
 

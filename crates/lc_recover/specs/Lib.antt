@@ -1,11 +1,11 @@
 pub mod Fault
 pub mod Pages
-pub mod Kept
+pub mod StoreContents
 pub mod KeptAreas
 pub mod Reads
 pub mod ReadsAs
 pub mod Position
-pub mod Stage
+pub mod RecoveryPhase
 pub mod Shows
 pub mod Page
 pub mod Steps

@@ -5,11 +5,11 @@ use Rattle.lc_record.specs.declared.geometry.Geometry.{Geometry}
 use Rattle.lc_model.specs.Merge.{MergesTo}
 use Rattle.lc_recover.specs.KeptAreas.{IsRead}
 use Rattle.lc_recover.specs.Reads.{store_of}
-use Rattle.lc_recover.specs.Stage.{IsWriting}
+use Rattle.lc_recover.specs.RecoveryPhase.{IsWriting}
 use Rattle.lc_recover.specs.Recovery.{AreBehind}
 use Rattle.lc_recover.specs.Steps.{pages_in, pages_left, pages_kept}
 use Rattle.lc_recover.specs.declared.page_writes.PageWrites.{PageWrites}
-use Rattle.lc_recover.specs.declared.stage.Stage.{Stage}
+use Rattle.lc_recover.specs.declared.recovery_phase.RecoveryPhase.{RecoveryPhase}
 
 -- what is kept is what was read, its store is the one that they read as, and no page is written yet
 pub record IsMergedFrom (g : Geometry) (read : List (List ℕ)) (w : PageWrites) : Type 0 where
@@ -21,7 +21,7 @@ pub record IsMergedFrom (g : Geometry) (read : List (List ℕ)) (w : PageWrites)
   pub current : w.current ≡ None
 
 -- the merge of what was read is not refused; its pages are kept, and those that some record is newer than are left
-pub record IsMergedStage (g : Geometry) (read : List (List ℕ)) (stage : Stage) : Type 0 where
+pub record IsMergedStage (g : Geometry) (read : List (List ℕ)) (stage : RecoveryPhase) : Type 0 where
   pub content : Content
   pub numbers : ℕ → ℕ
   pub merges : MergesTo (store_of g read) content numbers

@@ -6,7 +6,7 @@ use Rattle.lc_record.specs.Content.{Content}
 use Rattle.lc_record.specs.Words.{words_of}
 use Rattle.lc_record.specs.declared.geometry.Geometry.{Geometry}
 use Rattle.lc_log.specs.InPlace.{records_in}
-use Rattle.lc_model.specs.Merge.{Store, MergesTo, MergeFault, Refuses}
+use Rattle.lc_model.specs.Merge.{StoreText, MergesTo, MergeFault, Refuses}
 use Rattle.lc_recover.specs.Pages.{pages_read}
 
 -- the areas of a store: the logs of its nodes, then its segments
@@ -21,7 +21,7 @@ area_len g area =
     else None
 
 -- what areas of these bytes read as: the records of each log, and the pages of each segment
-abbrev pub store_of : Geometry → List (List ℕ) → Store
+abbrev pub store_of : Geometry → List (List ℕ) → StoreText
 store_of g areas = record {
   logs = map (λ bytes. records_in (words_of bytes)) (take g.nodes areas);
   pages = map (pages_read g.pages) (drop g.nodes areas);

@@ -9,7 +9,7 @@ use Rattle.lc_record.specs.declared.geometry.Geometry.{Geometry}
 use Rattle.lc_page.specs.Page.{page_in, text_in}
 use Rattle.lc_page.specs.PageVector.{entry_at, entry_text}
 use Rattle.lc_page.specs.declared.page_text.PageText.{PageText}
-use Rattle.lc_model.specs.Merge.{Page, Store, MergesTo}
+use Rattle.lc_model.specs.Merge.{Page, StoreText, MergesTo}
 use Rattle.lc_model.specs.Recovered.{AreRenewed, IsReadable}
 use Rattle.lc_recover.specs.Pages.{bytes_of_page}
 use Rattle.lc_recover.specs.Reads.{AllMergeTo, AreHonest}
@@ -68,7 +68,7 @@ module _ {D : Type 0} (a : Ghosts D) where
   -- newer has its part of the result, under its segment's number, and any other is as it was read. Where all areas are honest
   -- they have that result.
   pub record IsMade (r : RecoveredStore D) : Type 0 where
-    pub store : Store
+    pub store : StoreText
     pub content : Content
     pub numbers : ℕ → ℕ
     pub merges : MergesTo store content numbers

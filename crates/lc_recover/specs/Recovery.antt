@@ -3,19 +3,19 @@ use Rattle.std.specs.Prelude.{◌⊎◌, ◌≡◌, ◌↔◌, ℕ, ◌+◌, ◌
 use Rattle.lc_disk.specs.declared.area.Area.{Ghosts}
 use Rattle.lc_record.specs.declared.geometry.Geometry.{Geometry}
 use Rattle.lc_record.specs.Content.{Content, segment_of}
-use Rattle.lc_model.specs.Merge.{Page, Store, MergesTo}
+use Rattle.lc_model.specs.Merge.{Page, StoreText, MergesTo}
 use Rattle.lc_model.specs.Recovered.{IsBehind}
 use Rattle.lc_recover.specs.Fault.{IsRefusal}
-use Rattle.lc_recover.specs.Kept.{HasNewer}
+use Rattle.lc_recover.specs.StoreContents.{HasNewer}
 use Rattle.lc_recover.specs.Page.{ArePagesAscending}
 use Rattle.lc_recover.specs.Reads.{area_count, area_len, store_of, AllMergeTo}
 use Rattle.lc_recover.specs.Shows.{new_page}
-use Rattle.lc_recover.specs.Stage.{Fits, OneCall}
+use Rattle.lc_recover.specs.RecoveryPhase.{Fits, OneCall}
 use Rattle.lc_recover.specs.Steps.{first_steps, steps_of, pages_in, HasNext, pages_left, pages_kept}
 use Rattle.lc_recover.specs.declared.fault.RecoverFault.{RecoverFault}
 use Rattle.lc_recover.specs.declared.progress.Progress.{Progress}
 use Rattle.lc_recover.specs.declared.progress.Progress.TheVariants.{Stepped, Recovered}
-use Rattle.lc_recover.specs.declared.stage.Stage.{Stage}
+use Rattle.lc_recover.specs.declared.recovery_phase.RecoveryPhase.{RecoveryPhase}
 
 -- The areas of a store as they are now, and how many steps of their recovery are done. Once all is merged: how many pages
 -- are to be written in all, the pages of each segment as the recovery has them, and which of them are still to be written,
@@ -29,7 +29,7 @@ pub record Recovering (D : Type 0) : Type 0 where
   pub left : List (ℕ × ℕ)
 
 -- a recovery in a part
-abbrev pub recovering : {D : Type 0} → Geometry → List D → Stage → Recovering D
+abbrev pub recovering : {D : Type 0} → Geometry → List D → RecoveryPhase → Recovering D
 recovering g areas stage = record {
   geometry = g;
   areas = areas;
@@ -81,7 +81,7 @@ module _ {D : Type 0} where
   Tells Recovered r = IsDone r
 
 -- these are the pages of the store that some record is newer than, ascending by segment and page
-pub record AreBehind (store : Store) (pages : List (ℕ × ℕ)) : Type 0 where
+pub record AreBehind (store : StoreText) (pages : List (ℕ × ℕ)) : Type 0 where
   pub ascending : ArePagesAscending pages
   pub all : (segment page : ℕ) → Contains pages (segment, page)
       ↔ ((text : Page) × (slice_get (segment_of segment store.pages) page ≡ Some text) × IsBehind store segment page text)
@@ -106,7 +106,7 @@ pub record RefusesRead (g : Geometry) (fault : RecoverFault) : Type 0 where
   pub refuses : IsRefusal (store_of g bytes) fault
 
 -- the store merges to some result, and some record is newer than a page of it
-pub record HasPageToWrite (store : Store) : Type 0 where
+pub record HasPageToWrite (store : StoreText) : Type 0 where
   pub content : Content
   pub numbers : ℕ → ℕ
   pub merges : MergesTo store content numbers
@@ -120,7 +120,7 @@ with_page segment page text pages = slice_set pages (segment - 1) (slice_set (se
 
 module _ {D : Type 0} (a : Ghosts D) where
   -- what is kept, and the areas, are as the part has them
-  pub record IsGoing (g : Geometry) (stage : Stage) (areas : List D) : Type 0 where
+  pub record IsGoing (g : Geometry) (stage : RecoveryPhase) (areas : List D) : Type 0 where
     pub fits : Fits a g stage areas
     pub next : HasNext g stage
     pub few : (pages : ℕ) → pages_in stage ≡ Some pages → pages ≤ g.segments * g.pages

@@ -6,7 +6,7 @@ use Rattle.lc_record.specs.Content.{Content, segment_of}
 use Rattle.lc_record.specs.declared.geometry.Geometry.{Geometry}
 use Rattle.lc_log.specs.LogText.{IsLogText}
 use Rattle.lc_log.specs.NodeLog.{LeavesOnly, IsWithOrWithout}
-use Rattle.lc_model.specs.Merge.{Page, Store}
+use Rattle.lc_model.specs.Merge.{Page, StoreText}
 use Rattle.lc_model.specs.Stored.{page_bytes}
 use Rattle.lc_recover.specs.Pages.{page_read, kept_page}
 use Rattle.lc_recover.specs.declared.segment_pages.SegmentPages.{SegmentPages}
@@ -18,7 +18,7 @@ new_page content numbers segment page = record { sequence = numbers segment; byt
 module _ {D : Type 0} (a : Ghosts D) where
   -- whatever a stop leaves of the areas has the store's logs, and each of its pages as it is there or with its part of the
   -- result
-  pub record ShowPages (g : Geometry) (areas : List D) (store : Store) (content : Content) (numbers : ℕ → ℕ) : Type 0 where
+  pub record ShowPages (g : Geometry) (areas : List D) (store : StoreText) (content : Content) (numbers : ℕ → ℕ) : Type 0 where
     pub logs : (log : ℕ) (area : D) → log < g.nodes → slice_get areas log ≡ Some area →
         LeavesOnly a area (λ words. IsLogText words (slice_index_or store.logs log []))
     pub pages : (s page : ℕ) (area : D) (text : Page) → slice_get areas (g.nodes + s) ≡ Some area →
@@ -27,7 +27,7 @@ module _ {D : Type 0} (a : Ghosts D) where
         (page_read image page ≡ text) ⊎ (page_read image page ≡ new_page content numbers (s + 1) page)
 
   -- whatever a stop leaves of the areas has each of the store's logs or an empty one, and the pages as they are kept
-  pub record ShowLogs (g : Geometry) (areas : List D) (store : Store) (segments : List SegmentPages) : Type 0 where
+  pub record ShowLogs (g : Geometry) (areas : List D) (store : StoreText) (segments : List SegmentPages) : Type 0 where
     pub logs : (log : ℕ) (area : D) → log < g.nodes → slice_get areas log ≡ Some area →
         LeavesOnly a area (IsWithOrWithout [] (slice_index_or store.logs log []))
     pub pages : (s page : ℕ) (area : D) (pages : SegmentPages) → slice_get areas (g.nodes + s) ≡ Some area →

@@ -10,8 +10,8 @@ use Rattle.lc_recover.specs.Pages.{kept_pages}
 use Rattle.lc_recover.specs.Reads.{area_count}
 use Rattle.lc_recover.specs.declared.log_resets.LogResets.{LogResets}
 use Rattle.lc_recover.specs.declared.page_writes.PageWrites.{PageWrites}
-use Rattle.lc_recover.specs.declared.stage.Stage.{Stage}
-use Rattle.lc_recover.specs.declared.stage.Stage.TheVariants.{Syncing, Reading, Writing as WritingPages, Resetting, Done}
+use Rattle.lc_recover.specs.declared.recovery_phase.RecoveryPhase.{RecoveryPhase}
+use Rattle.lc_recover.specs.declared.recovery_phase.RecoveryPhase.TheVariants.{Syncing, Reading, Writing as WritingPages, Resetting, Done}
 
 -- the steps up to the merge: a sync and a read of each area, and the merge
 abbrev pub first_steps : Geometry → ℕ
@@ -31,7 +31,7 @@ abbrev pub resets_done : LogResets → ℕ
 resets_done r = 2 * r.next + (if r.is_closing then 1 else 0)
 
 -- how many steps are done
-abbrev pub steps_of : Geometry → Stage → ℕ
+abbrev pub steps_of : Geometry → RecoveryPhase → ℕ
 steps_of g (Syncing synced) = synced
 steps_of g (Reading r) = area_count g + read_count r
 steps_of g (WritingPages w) = first_steps g + writes_done w
@@ -43,7 +43,7 @@ abbrev pub all_pages : PageWrites → ℕ
 all_pages w = w.written + length (pages_of (drop w.next w.merged.changes.items))
 
 -- how many pages are to be written in all, once all is merged
-abbrev pub pages_in : Stage → Option ℕ
+abbrev pub pages_in : RecoveryPhase → Option ℕ
 pages_in (Syncing synced) = None
 pages_in (Reading r) = None
 pages_in (WritingPages w) = Some (all_pages w)
@@ -51,7 +51,7 @@ pages_in (Resetting r) = Some r.written
 pages_in (Done f) = Some f.written
 
 -- the pages that are still to be written, in order
-abbrev pub pages_left : Stage → List (ℕ × ℕ)
+abbrev pub pages_left : RecoveryPhase → List (ℕ × ℕ)
 pages_left (Syncing synced) = []
 pages_left (Reading r) = []
 pages_left (WritingPages w) = pages_of (drop w.next w.merged.changes.items)
@@ -59,7 +59,7 @@ pages_left (Resetting r) = []
 pages_left (Done f) = []
 
 -- the pages of each segment as they are kept, once all is merged
-abbrev pub pages_kept : Stage → List (List Page)
+abbrev pub pages_kept : RecoveryPhase → List (List Page)
 pages_kept (Syncing synced) = []
 pages_kept (Reading r) = []
 pages_kept (WritingPages w) = map kept_pages w.kept.segments.items
@@ -67,7 +67,7 @@ pages_kept (Resetting r) = map kept_pages r.segments.items
 pages_kept (Done f) = map kept_pages f.segments.items
 
 -- while logs are emptied one is left
-abbrev pub HasNext : Geometry → Stage → Type 0
+abbrev pub HasNext : Geometry → RecoveryPhase → Type 0
 HasNext g (Syncing synced) = Unit {0}
 HasNext g (Reading r) = Unit {0}
 HasNext g (WritingPages w) = Unit {0}
@@ -75,7 +75,7 @@ HasNext g (Resetting r) = r.next < g.nodes
 HasNext g (Done f) = Unit {0}
 
 -- no step is left
-abbrev pub IsOver : Stage → Type 0
+abbrev pub IsOver : RecoveryPhase → Type 0
 IsOver (Syncing synced) = ⊥
 IsOver (Reading r) = ⊥
 IsOver (WritingPages w) = ⊥

@@ -1,7 +1,7 @@
 -- What was read of a store, as contracts see it.
 use Rattle.std.specs.Prelude.{ℕ, List}
 use Rattle.lc_record.specs.declared.geometry.Geometry.{Geometry}
-use Rattle.lc_model.specs.Merge.{Store}
+use Rattle.lc_model.specs.Merge.{StoreText}
 use Rattle.lc_recover.specs.KeptAreas.{IsCounted, IsReadWhole}
 use Rattle.lc_recover.specs.Reading.{store_of}
 use Rattle.lc_recover.specs.declared.read_areas.ReadAreas.{ReadAreas}
@@ -9,7 +9,7 @@ use Rattle.lc_recover.specs.declared.read_areas.ReadAreas.{ReadAreas}
 -- the records of each log and the pages of each segment
 pub record Surveyed : Type 0 where
   pub geometry : Geometry
-  pub store : Store
+  pub store : StoreText
 
 -- those that are kept
 abbrev pub surveyed : Geometry → ReadAreas → Surveyed

@@ -7,10 +7,10 @@ ghost use Rattle.lc_recover.specs.Merging.{IsMergedStage};
 ghost use Rattle.lc_recover.specs.Reads.{AreHonest, AllMergeTo, store_of};
 ghost use Rattle.lc_recover.specs.Recovery.{begun, recovering, HasPageToWrite, Renews, IsGoing, IsMerged, IsMergeNext, MakesItsCall, MergesRead, RefusesRead, TakesMemory};
 ghost use Rattle.lc_recover.specs.Stopped.{IsStopped};
-ghost use Rattle.lc_recover.specs.Stage.{AreasFit, Fits};
+ghost use Rattle.lc_recover.specs.RecoveryPhase.{AreasFit, Fits};
 ghost use Rattle.lc_recover.specs.Steps.{first_steps, steps_of, all_pages, pages_in, HasNext, IsOver};
 ghost use Rattle.lc_recover.specs.declared.fault.RecoverFault.TheVariants.{NoMemory, DeviceFault as Failed};
-ghost use Rattle.lc_recover.specs.declared.stage.Stage.{Stage};
+ghost use Rattle.lc_recover.specs.declared.recovery_phase.RecoveryPhase.{RecoveryPhase};
 
 use crate::finished::Finished;
 use crate::log_resets::LogResets;
@@ -19,8 +19,8 @@ use crate::page_steps::write_next;
 use crate::page_writes::PageWrites;
 use crate::read_areas::ReadAreas;
 use crate::reading::read_area;
+use crate::recovery_phase::RecoveryPhase;
 use crate::reset_steps::reset_next;
-use crate::stage::Stage;
 use crate::stopped::Stopped;
 use crate::syncing::sync_area;
 use lc_disk::{Area, DeviceFault};
@@ -32,8 +32,8 @@ pub(crate) fn advance<D: Area>(
     alloc: Global,
     geometry: &Geometry,
     areas: &mut [D],
-    stage: Stage,
-) -> Result<Stage, Stopped>
+    stage: RecoveryPhase,
+) -> Result<RecoveryPhase, Stopped>
     requires going { IsGoing D.Area geometry.now stage areas.old }
     requires left { IsOver stage → ⊥ }
     ensures going { IfOk result (λ next. IsGoing D.Area geometry.now next areas.new) }
@@ -67,16 +67,16 @@ pub(crate) fn advance<D: Area>(
         → AllMergeTo D.Area geometry.now areas.old content numbers → AllMergeTo D.Area geometry.now areas.new content numbers }
 {
     match stage {
-        Stage::Syncing(synced) => Ok(sync_step(alloc, geometry, areas, synced)?),
-        Stage::Reading(read) => {
+        RecoveryPhase::Syncing(synced) => Ok(sync_step(alloc, geometry, areas, synced)?),
+        RecoveryPhase::Reading(read) => {
             if read.count() < areas.len() {
                 return read_step(alloc, geometry, areas, read);
             }
             merge_step(alloc, geometry, areas, read)
         }
-        Stage::Writing(writes) => Ok(write_step(geometry, areas, writes)?),
-        Stage::Resetting(resets) => Ok(reset_step(geometry, areas, resets)?),
-        Stage::Done(finished) => Ok(Stage::Done(finished)),
+        RecoveryPhase::Writing(writes) => Ok(write_step(geometry, areas, writes)?),
+        RecoveryPhase::Resetting(resets) => Ok(reset_step(geometry, areas, resets)?),
+        RecoveryPhase::Done(finished) => Ok(RecoveryPhase::Done(finished)),
     }
 }
 
@@ -86,25 +86,25 @@ pub(crate) fn sync_step<D: Area>(
     geometry: &Geometry,
     areas: &mut [D],
     synced: usize,
-) -> Result<Stage, DeviceFault>
-    requires fits { Fits D.Area geometry.now (Stage.Syncing synced) areas.old }
+) -> Result<RecoveryPhase, DeviceFault>
+    requires fits { Fits D.Area geometry.now (RecoveryPhase.Syncing synced) areas.old }
     ensures fits { IfOk result (λ stage. Fits D.Area geometry.now stage areas.new) }
     ensures next { IfOk result (HasNext geometry.now) }
     ensures steps { IfOk result (λ stage. steps_of geometry.now stage ≡ synced + 1) }
     ensures pages { IfOk result (λ stage. pages_in stage ≡ None) }
     ensures keeps { IfOk result (λ next. AreHonest D.Area areas.new
-        → Renews D.Area (recovering geometry.now areas.old (Stage.Syncing synced)) (recovering geometry.now areas.new next)) }
-    ensures areas { AreasFit D.Area geometry.now (Stage.Syncing 0) areas.new }
-    ensures call { MakesItsCall D.Area (recovering geometry.now areas.old (Stage.Syncing synced)) areas.new (is_ok result) }
+        → Renews D.Area (recovering geometry.now areas.old (RecoveryPhase.Syncing synced)) (recovering geometry.now areas.new next)) }
+    ensures areas { AreasFit D.Area geometry.now (RecoveryPhase.Syncing 0) areas.new }
+    ensures call { MakesItsCall D.Area (recovering geometry.now areas.old (RecoveryPhase.Syncing synced)) areas.new (is_ok result) }
     ensures reads { AreHonest D.Area areas.old → map D.now areas.new ≡ map D.now areas.old }
     ensures merges { (content : Content) (numbers : ℕ → ℕ) → AreHonest D.Area areas.new
         → AllMergeTo D.Area geometry.now areas.old content numbers → AllMergeTo D.Area geometry.now areas.new content numbers }
 {
     sync_area(geometry, areas, synced)?;
     if synced + 1 < areas.len() {
-        return Ok(Stage::Syncing(synced + 1));
+        return Ok(RecoveryPhase::Syncing(synced + 1));
     }
-    Ok(Stage::Reading(ReadAreas::new(alloc)))
+    Ok(RecoveryPhase::Reading(ReadAreas::new(alloc)))
 }
 
 /// Reads the next area. Where there is no memory nothing has changed.
@@ -113,26 +113,26 @@ pub(crate) fn read_step<D: Area>(
     geometry: &Geometry,
     areas: &mut [D],
     read: ReadAreas,
-) -> Result<Stage, Stopped>
-    requires fits { Fits D.Area geometry.now (Stage.Reading read) areas.old }
+) -> Result<RecoveryPhase, Stopped>
+    requires fits { Fits D.Area geometry.now (RecoveryPhase.Reading read) areas.old }
     requires left { read_count read < length areas.old }
     ensures fits { IfOk result (λ stage. Fits D.Area geometry.now stage areas.new) }
     ensures next { IfOk result (HasNext geometry.now) }
-    ensures steps { IfOk result (λ stage. steps_of geometry.now stage ≡ steps_of geometry.now (Stage.Reading read) + 1) }
+    ensures steps { IfOk result (λ stage. steps_of geometry.now stage ≡ steps_of geometry.now (RecoveryPhase.Reading read) + 1) }
     ensures pages { IfOk result (λ stage. pages_in stage ≡ None) }
     ensures keeps { IfOk result (λ next. AreHonest D.Area areas.new
-        → Renews D.Area (recovering geometry.now areas.old (Stage.Reading read)) (recovering geometry.now areas.new next)) }
-    ensures stopped { IfErr result (IsStopped D.Area geometry.now (Stage.Reading read) areas.old areas.new) }
-    ensures call { IfOk result (λ stage. MakesItsCall D.Area (recovering geometry.now areas.old (Stage.Reading read)) areas.new true) }
+        → Renews D.Area (recovering geometry.now areas.old (RecoveryPhase.Reading read)) (recovering geometry.now areas.new next)) }
+    ensures stopped { IfErr result (IsStopped D.Area geometry.now (RecoveryPhase.Reading read) areas.old areas.new) }
+    ensures call { IfOk result (λ stage. MakesItsCall D.Area (recovering geometry.now areas.old (RecoveryPhase.Reading read)) areas.new true) }
     ensures fault { IfErr result (λ stopped. (stopped.fault ≡ NoMemory)
-        ⊎ ((stopped.fault ≡ Failed) × MakesItsCall D.Area (recovering geometry.now areas.old (Stage.Reading read)) areas.new false)) }
+        ⊎ ((stopped.fault ≡ Failed) × MakesItsCall D.Area (recovering geometry.now areas.old (RecoveryPhase.Reading read)) areas.new false)) }
     ensures reads { AreHonest D.Area areas.old → map D.now areas.new ≡ map D.now areas.old }
     ensures merges { (content : Content) (numbers : ℕ → ℕ) → AreHonest D.Area areas.new
         → AllMergeTo D.Area geometry.now areas.old content numbers → AllMergeTo D.Area geometry.now areas.new content numbers }
 {
     let mut read = read;
     match read_area(alloc, geometry, areas, &mut read) {
-        Ok(()) => Ok(Stage::Reading(read)),
+        Ok(()) => Ok(RecoveryPhase::Reading(read)),
         Err(fault) => Err(Stopped::new(read, fault)),
     }
 }
@@ -144,15 +144,15 @@ pub(crate) fn merge_step<D: Area>(
     geometry: &Geometry,
     areas: &[D],
     read: ReadAreas,
-) -> Result<Stage, Stopped>
-    requires fits { Fits D.Area geometry.now (Stage.Reading read) areas.now }
+) -> Result<RecoveryPhase, Stopped>
+    requires fits { Fits D.Area geometry.now (RecoveryPhase.Reading read) areas.now }
     requires all { read_count read ≡ length areas.now }
     ensures fits { IfOk result (λ stage. Fits D.Area geometry.now stage areas.now) }
     ensures next { IfOk result (HasNext geometry.now) }
-    ensures steps { IfOk result (λ stage. steps_of geometry.now stage ≡ steps_of geometry.now (Stage.Reading read) + 1) }
+    ensures steps { IfOk result (λ stage. steps_of geometry.now stage ≡ steps_of geometry.now (RecoveryPhase.Reading read) + 1) }
     ensures merged { IfOk result (λ stage. (bytes : List (List ℕ)) → IsReadWhole geometry.now bytes read → IsMergedStage geometry.now bytes stage) }
     ensures few { IfOk result (λ stage. (pages : ℕ) → pages_in stage ≡ Some pages → pages ≤ geometry.now.segments * geometry.now.pages) }
-    ensures stopped { IfErr result (IsStopped D.Area geometry.now (Stage.Reading read) areas.now areas.now) }
+    ensures stopped { IfErr result (IsStopped D.Area geometry.now (RecoveryPhase.Reading read) areas.now areas.now) }
     ensures refused { IfErr result (λ stopped. (bytes : List (List ℕ)) → IsReadWhole geometry.now bytes read
         → IsRefusal (store_of geometry.now bytes) stopped.fault) }
     ensures no_memory { IfErr result (λ stopped. stopped.fault ≡ NoMemory → (bytes : List (List ℕ)) → IsReadWhole geometry.now bytes read
@@ -160,7 +160,7 @@ pub(crate) fn merge_step<D: Area>(
 {
     let mut read = read;
     match merge(alloc, &mut read) {
-        Ok(changes) => Ok(Stage::Writing(PageWrites::new(read, changes))),
+        Ok(changes) => Ok(RecoveryPhase::Writing(PageWrites::new(read, changes))),
         Err(fault) => Err(Stopped::new(read, fault)),
     }
 }
@@ -170,16 +170,16 @@ pub(crate) fn write_step<D: Area>(
     geometry: &Geometry,
     areas: &mut [D],
     writes: PageWrites,
-) -> Result<Stage, DeviceFault>
-    requires fits { Fits D.Area geometry.now (Stage.Writing writes) areas.old }
+) -> Result<RecoveryPhase, DeviceFault>
+    requires fits { Fits D.Area geometry.now (RecoveryPhase.Writing writes) areas.old }
     ensures fits { IfOk result (λ stage. Fits D.Area geometry.now stage areas.new) }
     ensures next { IfOk result (HasNext geometry.now) }
-    ensures steps { IfOk result (λ stage. steps_of geometry.now stage ≡ steps_of geometry.now (Stage.Writing writes) + 1) }
+    ensures steps { IfOk result (λ stage. steps_of geometry.now stage ≡ steps_of geometry.now (RecoveryPhase.Writing writes) + 1) }
     ensures pages { IfOk result (λ stage. pages_in stage ≡ Some (all_pages writes)) }
     ensures keeps { IfOk result (λ next. AreHonest D.Area areas.new
-        → Renews D.Area (recovering geometry.now areas.old (Stage.Writing writes)) (recovering geometry.now areas.new next)) }
-    ensures areas { AreasFit D.Area geometry.now (Stage.Syncing 0) areas.new }
-    ensures call { MakesItsCall D.Area (recovering geometry.now areas.old (Stage.Writing writes)) areas.new (is_ok result) }
+        → Renews D.Area (recovering geometry.now areas.old (RecoveryPhase.Writing writes)) (recovering geometry.now areas.new next)) }
+    ensures areas { AreasFit D.Area geometry.now (RecoveryPhase.Syncing 0) areas.new }
+    ensures call { MakesItsCall D.Area (recovering geometry.now areas.old (RecoveryPhase.Writing writes)) areas.new (is_ok result) }
     ensures merges { (content : Content) (numbers : ℕ → ℕ) → AreHonest D.Area areas.new
         → AllMergeTo D.Area geometry.now areas.old content numbers → AllMergeTo D.Area geometry.now areas.new content numbers }
 {
@@ -188,7 +188,7 @@ pub(crate) fn write_step<D: Area>(
         return reset_step(geometry, areas, resets_of(writes));
     }
     write_next(geometry, areas, &mut writes)?;
-    Ok(Stage::Writing(writes))
+    Ok(RecoveryPhase::Writing(writes))
 }
 
 // All pages are written: the logs are to be emptied.
@@ -217,26 +217,26 @@ pub(crate) fn reset_step<D: Area>(
     geometry: &Geometry,
     areas: &mut [D],
     resets: LogResets,
-) -> Result<Stage, DeviceFault>
-    requires fits { Fits D.Area geometry.now (Stage.Resetting resets) areas.old }
+) -> Result<RecoveryPhase, DeviceFault>
+    requires fits { Fits D.Area geometry.now (RecoveryPhase.Resetting resets) areas.old }
     requires left { resets.next < geometry.now.nodes }
     ensures fits { IfOk result (λ stage. Fits D.Area geometry.now stage areas.new) }
     ensures next { IfOk result (HasNext geometry.now) }
-    ensures steps { IfOk result (λ stage. steps_of geometry.now stage ≡ steps_of geometry.now (Stage.Resetting resets) + 1) }
+    ensures steps { IfOk result (λ stage. steps_of geometry.now stage ≡ steps_of geometry.now (RecoveryPhase.Resetting resets) + 1) }
     ensures pages { IfOk result (λ stage. pages_in stage ≡ Some resets.written) }
     ensures keeps { IfOk result (λ next. AreHonest D.Area areas.new
-        → Renews D.Area (recovering geometry.now areas.old (Stage.Resetting resets)) (recovering geometry.now areas.new next)) }
-    ensures areas { AreasFit D.Area geometry.now (Stage.Syncing 0) areas.new }
-    ensures call { MakesItsCall D.Area (recovering geometry.now areas.old (Stage.Resetting resets)) areas.new (is_ok result) }
+        → Renews D.Area (recovering geometry.now areas.old (RecoveryPhase.Resetting resets)) (recovering geometry.now areas.new next)) }
+    ensures areas { AreasFit D.Area geometry.now (RecoveryPhase.Syncing 0) areas.new }
+    ensures call { MakesItsCall D.Area (recovering geometry.now areas.old (RecoveryPhase.Resetting resets)) areas.new (is_ok result) }
     ensures merges { (content : Content) (numbers : ℕ → ℕ) → AreHonest D.Area areas.new
         → AllMergeTo D.Area geometry.now areas.old content numbers → AllMergeTo D.Area geometry.now areas.new content numbers }
 {
     let mut resets = resets;
     reset_next(geometry, areas, &mut resets)?;
     if resets.next < geometry.nodes as usize {
-        return Ok(Stage::Resetting(resets));
+        return Ok(RecoveryPhase::Resetting(resets));
     }
-    Ok(Stage::Done(Finished {
+    Ok(RecoveryPhase::Done(Finished {
         segments: resets.segments,
         numbers: resets.numbers,
         written: resets.written,

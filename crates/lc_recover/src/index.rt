@@ -4,14 +4,14 @@ ghost use Rattle.lc_record.specs.Newest.{number_or_zero};
 ghost use Rattle.lc_record.specs.Record.{IsCanonical};
 ghost use Rattle.lc_page.specs.PageVector.{entry_at};
 ghost use Rattle.lc_recover.specs.Pages.{kept_pages};
-ghost use Rattle.lc_recover.specs.Kept.{IsIndex};
+ghost use Rattle.lc_recover.specs.StoreContents.{IsIndex};
 ghost use Rattle.lc_recover.specs.Reading.{store_of};
-ghost use Rattle.lc_recover.specs.declared.change.Change.{Change};
-ghost use Rattle.lc_recover.specs.Changes.{Adds, AreOf, Covers, HasOf, IsOf, IsOnRange, Seat, SomeIsOf, Touches, on_page, seat, seats_from, seats_of};
+ghost use Rattle.lc_recover.specs.declared.redo_range.RedoRange.{RedoRange};
+ghost use Rattle.lc_recover.specs.Changes.{Adds, AreOf, Covers, HasOf, IsOf, IsOnRange, PlacedRecord, SomeIsOf, Touches, on_page, seat, seats_from, seats_of};
 
-use crate::change::Change;
 use crate::page_count::{PAGE_LEN, pages_of};
-use crate::records::records_of;
+use crate::record_cursor::records_of;
+use crate::redo_range::RedoRange;
 use crate::segment_pages::SegmentPages;
 use lc_page::PageVector;
 use lc_record::{Items, Span, View};
@@ -23,7 +23,7 @@ pub(crate) fn index(
     alloc: Global,
     logs: &[Items<u64>],
     segments: &[SegmentPages],
-) -> Result<Vec<Change>, AllocError>
+) -> Result<Vec<RedoRange>, AllocError>
     requires { All (λ (s : SegmentPages). length s.texts ≤ 1024) segments.now }
     ensures index { IfOk result (λ changes. IsIndex logs.now (store_of logs.now segments.now) changes.items) }
     ensures memory { OnErr result (SomeIsOf (map kept_pages segments.now) (seats_from 0 logs.now)) }
@@ -38,7 +38,7 @@ fn changes_of(
     alloc: Global,
     logs: &[Items<u64>],
     segments: &[SegmentPages],
-) -> Result<Vec<Change>, AllocError>
+) -> Result<Vec<RedoRange>, AllocError>
     requires { All (λ (s : SegmentPages). length s.texts ≤ 1024) segments.now }
     ensures changes { IfOk result (λ changes. AreOf (map kept_pages segments.now) (seats_from 0 logs.now) changes.items) }
     ensures memory { OnErr result (SomeIsOf (map kept_pages segments.now) (seats_from 0 logs.now)) }
@@ -51,13 +51,13 @@ fn changes_of(
 }
 
 fn add_log(
-    changes: &mut Vec<Change>,
+    changes: &mut Vec<RedoRange>,
     log: usize,
     words: &[u64],
     segments: &[SegmentPages],
 ) -> Result<(), AllocError>
     requires { All (λ (s : SegmentPages). length s.texts ≤ 1024) segments.now }
-    ensures changes { IfOk result (λ _. (seats : List Seat) → AreOf (map kept_pages segments.now) seats changes.old.items →
+    ensures changes { IfOk result (λ _. (seats : List PlacedRecord) → AreOf (map kept_pages segments.now) seats changes.old.items →
         AreOf (map kept_pages segments.now) (seats ++ seats_of log words.now) changes.new.items) }
     ensures memory { OnErr result (SomeIsOf (map kept_pages segments.now) (seats_of log words.now)) }
 {
@@ -68,7 +68,7 @@ fn add_log(
 }
 
 fn add_record(
-    changes: &mut Vec<Change>,
+    changes: &mut Vec<RedoRange>,
     log: usize,
     place: usize,
     view: &View<'_>,
@@ -85,7 +85,7 @@ fn add_record(
         let Some(pages) = pages_of(segments, span.segment) else {
             continue;
         };
-        let change = Change {
+        let change = RedoRange {
             segment: span.segment,
             page: 0,
             seq: number(view, span.segment),
@@ -116,8 +116,8 @@ fn number(view: &View<'_>, segment: u32) -> u64
 
 // A change for each page that the range has a byte on and whose sequence is below the number.
 fn add_range(
-    changes: &mut Vec<Change>,
-    change: Change,
+    changes: &mut Vec<RedoRange>,
+    change: RedoRange,
     span: Span,
     texts: &PageVector,
 ) -> Result<(), AllocError>
@@ -125,11 +125,11 @@ fn add_range(
     ensures adds { IfOk result (λ _. Adds (IsOnRange change span texts.now) changes.old.items changes.new.items) }
     ensures covers { IfOk result (λ _. (page : ℕ) → page < length texts.now → Touches span page →
         (entry_at texts.now page).stable < change.seq → Contains changes.new.items (on_page change page)) }
-    ensures memory { OnErr result ((c : Change) × IsOnRange change span texts.now c) }
+    ensures memory { OnErr result ((c : RedoRange) × IsOnRange change span texts.now c) }
 {
     for page in first_page(span)..behind_page(span) {
         if (page as usize) < texts.len() && texts.stable(page) < change.seq {
-            add(changes, Change { page, ..change })?;
+            add(changes, RedoRange { page, ..change })?;
         }
     }
     Ok(())
@@ -150,7 +150,7 @@ fn behind_page(span: Span) -> u32
 }
 
 // Adds a change.
-fn add(changes: &mut Vec<Change>, change: Change) -> Result<(), AllocError>
+fn add(changes: &mut Vec<RedoRange>, change: RedoRange) -> Result<(), AllocError>
     ensures adds { IfOk result (λ _. Adds (λ c. c ≡ change) changes.old.items changes.new.items) }
     ensures there { IfOk result (λ _. Contains changes.new.items change) }
 {

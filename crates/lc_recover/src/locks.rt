@@ -4,7 +4,7 @@ ghost use Rattle.lc_log.specs.InPlace.{records_in};
 ghost use Rattle.lc_recover.specs.Locks.{numbers_in, numbers_of};
 
 use crate::lock_number::LockNumber;
-use crate::records::records_of;
+use crate::record_cursor::records_of;
 use lc_record::View;
 
 /// How many words each number of a record takes at least.

@@ -1,18 +1,18 @@
 //! What the logs and the pages of a store make together.
 ghost use Rattle.std.specs.Prelude.{◌≡◌, ◌≤◌, All, Err, IfErr, IfOk, OnErr, length};
-ghost use Rattle.lc_model.specs.Merge.{Store};
+ghost use Rattle.lc_model.specs.Merge.{StoreText};
 ghost use Rattle.lc_recover.specs.Fault.{IsRefusal};
-ghost use Rattle.lc_recover.specs.Kept.{HasNewer, IsFaultless, IsKept, IsMerging};
+ghost use Rattle.lc_recover.specs.StoreContents.{HasNewer, IsFaultless, IsKept, IsMerging};
 ghost use Rattle.lc_recover.specs.KeptAreas.{IsCounted};
 ghost use Rattle.lc_recover.specs.declared.fault.RecoverFault.TheVariants.{NoMemory};
 ghost use Rattle.lc_recover.specs.declared.segment_pages.SegmentPages.{SegmentPages};
 
 use crate::RecoverFault;
-use crate::change::Change;
 use crate::index::index;
 use crate::numbers::{counted, once};
 use crate::own::own;
 use crate::read_areas::ReadAreas;
+use crate::redo_range::RedoRange;
 use crate::within::within;
 use std::alloc::Global;
 
@@ -26,19 +26,19 @@ use std::alloc::Global;
 ///
 /// It takes the time of three readings of the logs, and of two sorts: of the numbers of all locks, and of the changes.
 /// Memory is asked for the changes alone, after all refusals, and only where there is one. No record is copied.
-pub(crate) fn merge(alloc: Global, read: &mut ReadAreas) -> Result<Vec<Change>, RecoverFault>
+pub(crate) fn merge(alloc: Global, read: &mut ReadAreas) -> Result<Vec<RedoRange>, RecoverFault>
     requires few_logs { length read.old.kept.logs.items ≤ 8 }
     requires few_segments { length read.old.kept.segments.items ≤ 16 }
     requires few_pages { All (λ (s : SegmentPages). length s.texts ≤ 1024) read.old.kept.segments.items }
     requires counted { IsCounted read.old }
     ensures kept { read.new.kept ≡ read.old.kept }
     ensures counted { OnErr result (IsCounted read.new) }
-    ensures refused { IfErr result (λ fault. (store : Store)
+    ensures refused { IfErr result (λ fault. (store : StoreText)
         → IsKept read.old.kept.logs.items read.old.kept.segments.items store → IsRefusal store fault) }
-    ensures merged { IfOk result (λ changes. (store : Store)
+    ensures merged { IfOk result (λ changes. (store : StoreText)
         → IsKept read.old.kept.logs.items read.old.kept.segments.items store
         → IsMerging read.old.kept.logs.items store (record { numbers = read.new.numbers; changes = changes })) }
-    ensures no_memory { result ≡ Err NoMemory → (store : Store)
+    ensures no_memory { result ≡ Err NoMemory → (store : StoreText)
         → IsKept read.old.kept.logs.items read.old.kept.segments.items store → IsFaultless store × HasNewer store }
 {
     own(read.kept.logs.as_slice())?;

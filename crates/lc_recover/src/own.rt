@@ -9,7 +9,7 @@ ghost use Rattle.lc_recover.specs.declared.fault.RecoverFault.TheVariants.{NoMem
 ghost use Rattle.lc_recover.specs.declared.segment_pages.SegmentPages.{SegmentPages};
 
 use crate::RecoverFault;
-use crate::records::records_of;
+use crate::record_cursor::records_of;
 use lc_record::Items;
 
 /// Refuses the first log with a record of another node than the one of the log's number.

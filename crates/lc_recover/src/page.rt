@@ -4,14 +4,14 @@ ghost use Rattle.std.specs.Option.{option_or};
 ghost use Rattle.lc_record.specs.Newest.{byte_from};
 ghost use Rattle.lc_record.specs.Words.{bytes_of};
 ghost use Rattle.lc_record.specs.declared.record.RangeData.{RangeData};
-ghost use Rattle.lc_recover.specs.Kept.{AreAscending};
+ghost use Rattle.lc_recover.specs.StoreContents.{AreAscending};
 ghost use Rattle.lc_recover.specs.Page.{IsOf, AreAt, AreOfPage, byte_with, IsFirstPage};
 
-use crate::change::Change;
+use crate::redo_range::RedoRange;
 use lc_record::{Items, PAGE, put_words};
 
 /// The changes at the front that are of the first one's page; none where there are no changes.
-pub(crate) fn first_page(changes: &[Change]) -> &[Change]
+pub(crate) fn first_page(changes: &[RedoRange]) -> &[RedoRange]
     ensures { IsFirstPage changes.now result.now }
 {
     let [first, ..] = changes else {
@@ -26,7 +26,7 @@ pub(crate) fn first_page(changes: &[Change]) -> &[Change]
 }
 
 /// The changes of this page; none where it has none.
-pub(crate) fn changes_of(changes: &[Change], segment: u32, page: u32) -> &[Change]
+pub(crate) fn changes_of(changes: &[RedoRange], segment: u32, page: u32) -> &[RedoRange]
     ensures { AreAscending changes.now → AreOfPage changes.now segment page result.now }
 {
     for (place, change) in changes.iter().enumerate() {
@@ -38,7 +38,7 @@ pub(crate) fn changes_of(changes: &[Change], segment: u32, page: u32) -> &[Chang
 }
 
 /// Puts the ranges of these changes on the bytes of their page, one after another.
-pub(crate) fn put_changes(logs: &[Items<u64>], changes: &[Change], bytes: &mut [u8])
+pub(crate) fn put_changes(logs: &[Items<u64>], changes: &[RedoRange], bytes: &mut [u8])
     requires { length bytes.old ≡ 256 }
     ensures len { length bytes.new ≡ 256 }
     ensures put { (ranges : List RangeData) (segment page : ℕ) → AreAt logs.now changes.now ranges → All (IsOf segment page) changes.now →
@@ -50,7 +50,7 @@ pub(crate) fn put_changes(logs: &[Items<u64>], changes: &[Change], bytes: &mut [
 }
 
 // A change at whose place no words stand puts nothing.
-fn put_change(logs: &[Items<u64>], change: &Change, bytes: &mut [u8])
+fn put_change(logs: &[Items<u64>], change: &RedoRange, bytes: &mut [u8])
     requires { length bytes.old ≡ 256 }
     ensures len { length bytes.new ≡ 256 }
     ensures put { (offset : ℕ) → offset < 256 → slice_get bytes.new offset ≡ option_or

@@ -1,6 +1,6 @@
 //! What the bytes of a page are made of.
 ghost use Rattle.std.specs.Prelude.{List};
-ghost use Rattle.lc_recover.specs.declared.change.Change.{Change};
+ghost use Rattle.lc_recover.specs.declared.redo_range.RedoRange.{RedoRange};
 ghost use Rattle.lc_recover.specs.Page.{PagesMerge, RangesStand, TakenPageByPage, pages_of, AreListed, AreDifferent, BeginWithTheFirst};
 
 /// The ranges of a page's changes, put on its bytes one after another, make of each byte that of the record with the
@@ -19,7 +19,7 @@ pub(crate) fn pages_are_whole()
 /// The pages of a list of changes are those that some change is of, each once; and in an ascending list those of the
 /// changes after its first page are all others.
 pub(crate) fn pages_listed()
-    ensures listed { (changes : List Change) → AreListed changes }
-    ensures once { (changes : List Change) → AreDifferent (pages_of changes) }
-    ensures first { (changes : List Change) → BeginWithTheFirst changes }
+    ensures listed { (changes : List RedoRange) → AreListed changes }
+    ensures once { (changes : List RedoRange) → AreDifferent (pages_of changes) }
+    ensures first { (changes : List RedoRange) → BeginWithTheFirst changes }
 {}

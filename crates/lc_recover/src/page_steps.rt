@@ -10,11 +10,11 @@ ghost use Rattle.lc_recover.specs.Page.{page_of, pages_of};
 ghost use Rattle.lc_recover.specs.Reads.{AreHonest};
 ghost use Rattle.lc_recover.specs.Recovery.{recovering, Renews};
 ghost use Rattle.lc_recover.specs.Shows.{ShowPages};
-ghost use Rattle.lc_recover.specs.Stage.{AreasFit, Fits, OneCall, IsWriting, IsDraft, IsNext, IsSettledPage};
+ghost use Rattle.lc_recover.specs.RecoveryPhase.{AreasFit, Fits, OneCall, IsWriting, IsDraft, IsNext, IsSettledPage};
 ghost use Rattle.lc_recover.specs.Steps.{writes_done, all_pages};
-ghost use Rattle.lc_recover.specs.declared.change.Change.{Change};
+ghost use Rattle.lc_recover.specs.declared.redo_range.RedoRange.{RedoRange};
 ghost use Rattle.lc_recover.specs.declared.segment_pages.SegmentPages.{SegmentPages};
-ghost use Rattle.lc_recover.specs.declared.stage.Stage.{Stage};
+ghost use Rattle.lc_recover.specs.declared.recovery_phase.RecoveryPhase.{RecoveryPhase};
 
 use crate::page::{first_page, put_changes};
 use crate::page_writes::PageWrites;
@@ -29,10 +29,10 @@ pub(crate) fn write_next<D: Area>(
     areas: &mut [D],
     writes: &mut PageWrites,
 ) -> Result<(), DeviceFault>
-    requires fits { Fits D.Area geometry.now (Stage.Writing writes.old) areas.old }
+    requires fits { Fits D.Area geometry.now (RecoveryPhase.Writing writes.old) areas.old }
     requires left { writes.old.next < length writes.old.merged.changes.items }
-    ensures fits { OnOk result (Fits D.Area geometry.now (Stage.Writing writes.new) areas.new) }
-    ensures areas { AreasFit D.Area geometry.now (Stage.Syncing 0) areas.new }
+    ensures fits { OnOk result (Fits D.Area geometry.now (RecoveryPhase.Writing writes.new) areas.new) }
+    ensures areas { AreasFit D.Area geometry.now (RecoveryPhase.Syncing 0) areas.new }
     ensures call { (place : ℕ) × (geometry.now.nodes ≤ place) × OneCall D.Area place areas.old areas.new (is_ok result) }
     // After a fault too.
     ensures shows { (i : IsWriting geometry.now writes.old) → AreHonest D.Area areas.new
@@ -40,7 +40,7 @@ pub(crate) fn write_next<D: Area>(
     ensures steps { OnOk result (writes_done writes.new ≡ writes_done writes.old + 1) }
     ensures pages { OnOk result (all_pages writes.new ≡ all_pages writes.old) }
     ensures keeps { OnOk result (AreHonest D.Area areas.new
-        → Renews D.Area (recovering geometry.now areas.old (Stage.Writing writes.old)) (recovering geometry.now areas.new (Stage.Writing writes.new))) }
+        → Renews D.Area (recovering geometry.now areas.old (RecoveryPhase.Writing writes.old)) (recovering geometry.now areas.new (RecoveryPhase.Writing writes.new))) }
 {
     let place = place_of(geometry, writes);
     match writes.current.take() {
@@ -57,14 +57,14 @@ fn begin_next<D: Area>(
     place: usize,
     writes: &PageWrites,
 ) -> Result<Writing, DeviceFault>
-    requires fits { Fits D.Area geometry.now (Stage.Writing writes.now) areas.old }
+    requires fits { Fits D.Area geometry.now (RecoveryPhase.Writing writes.now) areas.old }
     requires left { writes.now.next < length writes.now.merged.changes.items }
     requires none { writes.now.current ≡ None }
     requires within { place < length areas.old }
-    requires here { (c : Change) (pages : SegmentPages) → IsNext writes.now c pages → place + 1 ≡ geometry.now.nodes + c.segment }
-    ensures fits { IfOk result (λ write. Fits D.Area geometry.now (Stage.Writing (record writes.now { current = Some write })) areas.new) }
+    requires here { (c : RedoRange) (pages : SegmentPages) → IsNext writes.now c pages → place + 1 ≡ geometry.now.nodes + c.segment }
+    ensures fits { IfOk result (λ write. Fits D.Area geometry.now (RecoveryPhase.Writing (record writes.now { current = Some write })) areas.new) }
     ensures first { IfOk result (λ write. calls_of write ≡ 1) }
-    ensures areas { AreasFit D.Area geometry.now (Stage.Syncing 0) areas.new }
+    ensures areas { AreasFit D.Area geometry.now (RecoveryPhase.Syncing 0) areas.new }
     ensures call { OneCall D.Area place areas.old areas.new (is_ok result) }
     // After a fault too.
     ensures shows { (i : IsWriting geometry.now writes.now) → AreHonest D.Area areas.new
@@ -81,13 +81,14 @@ fn go_on_next<D: Area>(
     writes: &mut PageWrites,
     write: Writing,
 ) -> Result<(), DeviceFault>
-    requires fits { Fits D.Area geometry.now (Stage.Writing (record writes.old { current = Some write })) areas.old }
+    requires fits { Fits D.Area geometry.now
+        (RecoveryPhase.Writing (record writes.old { current = Some write })) areas.old }
     requires left { writes.old.next < length writes.old.merged.changes.items }
     requires none { writes.old.current ≡ None }
     requires within { place < length areas.old }
-    requires here { (c : Change) (pages : SegmentPages) → IsNext writes.old c pages → place + 1 ≡ geometry.now.nodes + c.segment }
-    ensures fits { OnOk result (Fits D.Area geometry.now (Stage.Writing writes.new) areas.new) }
-    ensures areas { AreasFit D.Area geometry.now (Stage.Syncing 0) areas.new }
+    requires here { (c : RedoRange) (pages : SegmentPages) → IsNext writes.old c pages → place + 1 ≡ geometry.now.nodes + c.segment }
+    ensures fits { OnOk result (Fits D.Area geometry.now (RecoveryPhase.Writing writes.new) areas.new) }
+    ensures areas { AreasFit D.Area geometry.now (RecoveryPhase.Syncing 0) areas.new }
     ensures call { OneCall D.Area place areas.old areas.new (is_ok result) }
     // After a fault too.
     ensures shows { (i : IsWriting geometry.now (record writes.old { current = Some write })) → AreHonest D.Area areas.new
@@ -95,7 +96,7 @@ fn go_on_next<D: Area>(
     ensures steps { OnOk result (writes_done writes.new ≡ 6 * writes.old.written + calls_of write + 1) }
     ensures pages { OnOk result (all_pages writes.new ≡ all_pages writes.old) }
     ensures keeps { OnOk result (AreHonest D.Area areas.new
-        → Renews D.Area (recovering geometry.now areas.old (Stage.Writing writes.old)) (recovering geometry.now areas.new (Stage.Writing writes.new))) }
+        → Renews D.Area (recovering geometry.now areas.old (RecoveryPhase.Writing writes.old)) (recovering geometry.now areas.new (RecoveryPhase.Writing writes.new))) }
 {
     let draft = *write.draft();
     writes.current = go_on(write, &mut areas[place])?;
@@ -109,7 +110,7 @@ fn go_on_next<D: Area>(
 fn place_of(geometry: &Geometry, writes: &PageWrites) -> usize
     requires sound { IsWriting geometry.now writes.now }
     requires left { writes.now.next < length writes.now.merged.changes.items }
-    ensures { (c : Change) (pages : SegmentPages) → IsNext writes.now c pages → result + 1 ≡ geometry.now.nodes + c.segment }
+    ensures { (c : RedoRange) (pages : SegmentPages) → IsNext writes.now c pages → result + 1 ≡ geometry.now.nodes + c.segment }
 {
     geometry.nodes as usize + writes.merged.changes[writes.next].segment as usize - 1
 }
@@ -123,17 +124,17 @@ fn begin_page<D: Area>(
     requires sound { IsWriting geometry.now writes.now }
     requires left { writes.now.next < length writes.now.merged.changes.items }
     requires room { length (D.now area.old) ≡ 2 * 272 * geometry.now.pages }
-    ensures drafted { IfOk result (λ write. (i : IsWriting geometry.now writes.now) (c : Change) (pages : SegmentPages) → IsNext writes.now c pages
+    ensures drafted { IfOk result (λ write. (i : IsWriting geometry.now writes.now) (c : RedoRange) (pages : SegmentPages) → IsNext writes.now c pages
         → IsDraft i.content i.numbers c (draft_of write)) }
-    ensures begun { IfOk result (λ write. (c : Change) (pages : SegmentPages) → IsNext writes.now c pages
+    ensures begun { IfOk result (λ write. (c : RedoRange) (pages : SegmentPages) → IsNext writes.now c pages
         → SettledIn D.Area area.old c.page (entry_text (entry_at pages.texts c.page))
         → IsUnderWay D.Area area.new write (entry_text (entry_at pages.texts c.page)) (page_in (D.now area.old) c.page)) }
     ensures first { IfOk result (λ write. calls_of write ≡ 1) }
     // After a fault too.
-    ensures page { (c : Change) (pages : SegmentPages) → IsNext writes.now c pages
+    ensures page { (c : RedoRange) (pages : SegmentPages) → IsNext writes.now c pages
         → SettledIn D.Area area.old c.page (entry_text (entry_at pages.texts c.page))
         → HasPage D.Area area.new c.page (λ page. page ≡ page_in (D.now area.old) c.page) }
-    ensures others { (c : Change) (pages : SegmentPages) → IsNext writes.now c pages
+    ensures others { (c : RedoRange) (pages : SegmentPages) → IsNext writes.now c pages
         → (page : ℕ) → page ≢ c.page → KeepsPage D.Area page area.old area.new }
     ensures device { IsOneCall D.Area (is_ok result) area.old area.new }
     ensures bytes { D.honest area.new ≡ true → (at : ℕ) → slice_index_or (D.now area.new) at 0 < 256 }
@@ -176,11 +177,12 @@ fn settle_page(geometry: &Geometry, writes: &mut PageWrites, draft: &Draft)
     requires left { writes.old.next < length writes.old.merged.changes.items }
     requires none { writes.old.current ≡ None }
     requires drafted { (i : IsWriting geometry.now writes.old)
-        × ((c : Change) (pages : SegmentPages) → IsNext writes.old c pages → IsDraft i.content i.numbers c draft.now) }
+        × ((c : RedoRange) (pages : SegmentPages) → IsNext writes.old c pages
+        → IsDraft i.content i.numbers c draft.now) }
     ensures sound { IsWriting geometry.now writes.new }
     ensures settled { IsSettledPage writes.old writes.new draft.now }
     ensures pages { all_pages writes.new ≡ all_pages writes.old }
-    ensures left { (c : Change) → slice_get writes.old.merged.changes.items writes.old.next ≡ Some c
+    ensures left { (c : RedoRange) → slice_get writes.old.merged.changes.items writes.old.next ≡ Some c
         → pages_of (drop writes.old.next writes.old.merged.changes.items) ≡ page_of c ∷ pages_of (drop writes.new.next writes.new.merged.changes.items) }
 {
     let changes = first_page(&writes.merged.changes[writes.next..]);

@@ -1,10 +1,10 @@
 //! The pages that records are newer than, being written.
 ghost use Rattle.std.specs.Prelude.{◌≡◌, ◌≤◌, ◌^◌, None};
 
-use crate::change::Change;
-use crate::kept::Kept;
 use crate::merged::Merged;
 use crate::read_areas::ReadAreas;
+use crate::redo_range::RedoRange;
+use crate::store_contents::StoreContents;
 use lc_page::Writing;
 
 /// How many device calls the write of a page takes.
@@ -13,7 +13,7 @@ pub(crate) const PAGE_CALLS: u64 = 6;
 /// The pages that records are newer than, being written one after another.
 #[derive(Drop)]
 pub(crate) struct PageWrites {
-    pub(crate) kept: Kept,
+    pub(crate) kept: StoreContents,
     pub(crate) merged: Merged,
     /// How many of the changes are of pages that are written.
     pub(crate) next: usize,
@@ -27,7 +27,7 @@ impl PageWrites {
     ghost use Rattle.lc_recover.specs.Steps.{writes_done};
 
     /// No page is written yet of areas that were read so, with these changes.
-    pub(crate) fn new(read: ReadAreas, changes: Vec<Change>) -> PageWrites
+    pub(crate) fn new(read: ReadAreas, changes: Vec<RedoRange>) -> PageWrites
         ensures { result ≡ record {
           kept = read.kept;
           merged = record { numbers = read.numbers; changes = changes };

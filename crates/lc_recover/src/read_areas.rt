@@ -1,14 +1,14 @@
 //! What was read of the first areas of a store.
 ghost use Rattle.std.specs.Prelude.{◌≡◌, ◌+◌, ◌≤◌, [], length};
 
-use crate::kept::Kept;
 use crate::lock_number::LockNumber;
+use crate::store_contents::StoreContents;
 use std::alloc::Global;
 
 /// What was read of the first areas of a store, and the numbers that the merge looks for refusals in.
 #[derive(Drop)]
 pub(crate) struct ReadAreas {
-    pub(crate) kept: Kept,
+    pub(crate) kept: StoreContents,
     /// The numbers of all records, in any order.
     pub(crate) locks: Vec<LockNumber>,
     /// The greatest sequence of each segment's pages.
@@ -26,7 +26,7 @@ impl ReadAreas {
         ensures numbers { result.numbers.items ≡ [] }
     {
         ReadAreas {
-            kept: Kept {
+            kept: StoreContents {
                 logs: Vec::new(alloc),
                 segments: Vec::new(alloc),
             },

@@ -4,8 +4,8 @@ ghost use Rattle.lc_record.specs.Content.{Content};
 ghost use Rattle.lc_log.specs.OneCall.{IsOneCall};
 ghost use Rattle.lc_recover.specs.KeptAreas.{read_count, AddsLog, AddsSegment, IsReadOf, IsSameRead};
 ghost use Rattle.lc_recover.specs.Reads.{AllMergeTo, AreHonest, AreLeftAs, IsLeftAs};
-ghost use Rattle.lc_recover.specs.Stage.{AreasFit, Fits, OneCall, Quiet};
-ghost use Rattle.lc_recover.specs.declared.stage.Stage.{Stage};
+ghost use Rattle.lc_recover.specs.RecoveryPhase.{AreasFit, Fits, OneCall, Quiet};
+ghost use Rattle.lc_recover.specs.declared.recovery_phase.RecoveryPhase.{RecoveryPhase};
 ghost use Rattle.lc_recover.specs.declared.fault.RecoverFault.TheVariants.{NoMemory, DeviceFault as Failed};
 
 use crate::RecoverFault;
@@ -27,13 +27,13 @@ pub(crate) fn read_area<D: Area>(
     areas: &mut [D],
     read: &mut ReadAreas,
 ) -> Result<(), RecoverFault>
-    requires areas { AreasFit D.Area geometry.now (Stage.Syncing 0) areas.old }
+    requires areas { AreasFit D.Area geometry.now (RecoveryPhase.Syncing 0) areas.old }
     requires left { read_count read.old < length areas.old }
-    ensures fits { OnOk result (Fits D.Area geometry.now (Stage.Reading read.old) areas.old → Fits D.Area geometry.now (Stage.Reading read.new) areas.new) }
+    ensures fits { OnOk result (Fits D.Area geometry.now (RecoveryPhase.Reading read.old) areas.old → Fits D.Area geometry.now (RecoveryPhase.Reading read.new) areas.new) }
     ensures read { OnOk result (IsReadOf D.Area geometry.now areas.old read.old → IsReadOf D.Area geometry.now areas.new read.new) }
     ensures next { OnOk result (read_count read.new ≡ read_count read.old + 1) }
     ensures no_memory { result ≡ Err NoMemory → (areas.new ≡ areas.old) × IsSameRead read.old read.new }
-    ensures areas { AreasFit D.Area geometry.now (Stage.Syncing 0) areas.new }
+    ensures areas { AreasFit D.Area geometry.now (RecoveryPhase.Syncing 0) areas.new }
     ensures call { (result ≡ Err NoMemory → ⊥) → OneCall D.Area (read_count read.old) areas.old areas.new (is_ok result) }
     ensures honest { AreHonest D.Area areas.old → AreHonest D.Area areas.new }
     ensures left { AreLeftAs D.Area areas.old areas.new }

@@ -11,7 +11,7 @@ use crate::advance::advance;
 use crate::areas::first_wrong;
 use crate::log_resets::LOG_CALLS;
 use crate::page_writes::PAGE_CALLS;
-use crate::stage::Stage;
+use crate::recovery_phase::RecoveryPhase;
 use crate::{Progress, RecoverFault, Recovered};
 use lc_disk::{Area, DeviceFault};
 use lc_record::Geometry;
@@ -29,7 +29,7 @@ use std::mem;
 pub struct Recovery<D: Area> {
     geometry: Geometry,
     areas: Vec<D>,
-    stage: Stage,
+    stage: RecoveryPhase,
 }
 
 impl<D: Area> Model for Recovery<D> {
@@ -63,7 +63,7 @@ impl<D: Area> Recovery<D> {
         Ok(Recovery {
             geometry,
             areas,
-            stage: Stage::Syncing(0),
+            stage: RecoveryPhase::Syncing(0),
         })
     }
 
@@ -129,7 +129,7 @@ impl<D: Area> Recovery<D> {
             → self.new.steps ≤ first_steps self.new.geometry
             → (k : ℕ) (area : D) → slice_get self.new.areas k ≡ Some area → (at : ℕ) → D.dirty area at ≡ false }
     {
-        let stage = mem::replace(&mut self.stage, Stage::Syncing(0));
+        let stage = mem::replace(&mut self.stage, RecoveryPhase::Syncing(0));
         match advance(alloc, &self.geometry, self.areas.as_mut_slice(), stage) {
             Ok(stage) => {
                 self.stage = stage;
@@ -167,11 +167,13 @@ impl<D: Area> Recovery<D> {
         let areas = self.areas.len() as u64;
         let first = 2 * areas + 1;
         match &self.stage {
-            Stage::Syncing(synced) => *synced as u64,
-            Stage::Reading(read) => areas + read.count() as u64,
-            Stage::Writing(writes) => first + writes.calls(),
-            Stage::Resetting(resets) => first + PAGE_CALLS * resets.written + resets.calls(),
-            Stage::Done(finished) => {
+            RecoveryPhase::Syncing(synced) => *synced as u64,
+            RecoveryPhase::Reading(read) => areas + read.count() as u64,
+            RecoveryPhase::Writing(writes) => first + writes.calls(),
+            RecoveryPhase::Resetting(resets) => first
+                + PAGE_CALLS * resets.written
+                + resets.calls(),
+            RecoveryPhase::Done(finished) => {
                 let resets = LOG_CALLS * self.geometry.nodes as u64;
                 first + PAGE_CALLS * finished.written + resets
             }
@@ -182,7 +184,7 @@ impl<D: Area> Recovery<D> {
     pub fn is_done(&self) -> bool
         ensures { IsTrue result ↔ IsDone self.now }
     {
-        matches!(self.stage, Stage::Done(_))
+        matches!(self.stage, RecoveryPhase::Done(_))
     }
 
     /// Whether the next step is the last, if the device does not fail.
@@ -190,7 +192,7 @@ impl<D: Area> Recovery<D> {
         ensures { IsTrue result ↔ IsLast self.now }
     {
         match &self.stage {
-            Stage::Resetting(resets) => {
+            RecoveryPhase::Resetting(resets) => {
                 resets.is_closing && resets.next + 1 == self.geometry.nodes as usize
             }
             _ => false,
@@ -244,7 +246,7 @@ impl<D: Area> Recovery<D> {
             areas,
             stage,
         } = self;
-        let Stage::Done(finished) = stage else {
+        let RecoveryPhase::Done(finished) = stage else {
             unreachable!();
         };
         Recovered::new(geometry, areas, finished)

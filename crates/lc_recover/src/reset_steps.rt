@@ -5,9 +5,9 @@ ghost use Rattle.lc_log.specs.NodeLog.{IsClosing, IsWithOrWithout, Holds, GateRe
 ghost use Rattle.lc_log.specs.OneCall.{IsOneCall};
 ghost use Rattle.lc_recover.specs.Reads.{AreHonest};
 ghost use Rattle.lc_recover.specs.Shows.{ShowLogs};
-ghost use Rattle.lc_recover.specs.Stage.{AreasFit, Fits, OneCall, IsResetting, IsEmptied};
+ghost use Rattle.lc_recover.specs.RecoveryPhase.{AreasFit, Fits, OneCall, IsResetting, IsEmptied};
 ghost use Rattle.lc_recover.specs.Steps.{resets_done};
-ghost use Rattle.lc_recover.specs.declared.stage.Stage.{Stage};
+ghost use Rattle.lc_recover.specs.declared.recovery_phase.RecoveryPhase.{RecoveryPhase};
 
 use crate::log_resets::LogResets;
 use lc_disk::{Area, DeviceFault};
@@ -20,10 +20,10 @@ pub(crate) fn reset_next<D: Area>(
     areas: &mut [D],
     resets: &mut LogResets,
 ) -> Result<(), DeviceFault>
-    requires fits { Fits D.Area geometry.now (Stage.Resetting resets.old) areas.old }
+    requires fits { Fits D.Area geometry.now (RecoveryPhase.Resetting resets.old) areas.old }
     requires left { resets.old.next < geometry.now.nodes }
-    ensures fits { OnOk result (Fits D.Area geometry.now (Stage.Resetting resets.new) areas.new) }
-    ensures areas { AreasFit D.Area geometry.now (Stage.Syncing 0) areas.new }
+    ensures fits { OnOk result (Fits D.Area geometry.now (RecoveryPhase.Resetting resets.new) areas.new) }
+    ensures areas { AreasFit D.Area geometry.now (RecoveryPhase.Syncing 0) areas.new }
     ensures call { OneCall D.Area resets.old.next areas.old areas.new (is_ok result) }
     ensures shows { (i : IsResetting geometry.now resets.old) → AreHonest D.Area areas.new
         → ShowLogs D.Area geometry.now areas.new i.store resets.old.segments.items }
@@ -48,11 +48,11 @@ fn close_next<D: Area>(
     areas: &mut [D],
     resets: &LogResets,
 ) -> Result<(), DeviceFault>
-    requires fits { Fits D.Area geometry.now (Stage.Resetting resets.now) areas.old }
+    requires fits { Fits D.Area geometry.now (RecoveryPhase.Resetting resets.now) areas.old }
     requires left { resets.now.next < geometry.now.nodes }
     requires at_rest { resets.now.is_closing ≡ false }
-    ensures fits { OnOk result (AreasFit D.Area geometry.now (Stage.Resetting (record resets.now { is_closing = true })) areas.new) }
-    ensures areas { AreasFit D.Area geometry.now (Stage.Syncing 0) areas.new }
+    ensures fits { OnOk result (AreasFit D.Area geometry.now (RecoveryPhase.Resetting (record resets.now { is_closing = true })) areas.new) }
+    ensures areas { AreasFit D.Area geometry.now (RecoveryPhase.Syncing 0) areas.new }
     ensures call { OneCall D.Area resets.now.next areas.old areas.new (is_ok result) }
     ensures shows { (i : IsResetting geometry.now resets.now) → AreHonest D.Area areas.new
         → ShowLogs D.Area geometry.now areas.new i.store resets.now.segments.items }
@@ -67,11 +67,11 @@ fn settle_next<D: Area>(
     areas: &mut [D],
     resets: &LogResets,
 ) -> Result<(), DeviceFault>
-    requires fits { Fits D.Area geometry.now (Stage.Resetting resets.now) areas.old }
+    requires fits { Fits D.Area geometry.now (RecoveryPhase.Resetting resets.now) areas.old }
     requires left { resets.now.next < geometry.now.nodes }
     requires closing { resets.now.is_closing ≡ true }
-    ensures fits { OnOk result (AreasFit D.Area geometry.now (Stage.Resetting (record resets.now { next = resets.now.next + 1; is_closing = false })) areas.new) }
-    ensures areas { AreasFit D.Area geometry.now (Stage.Syncing 0) areas.new }
+    ensures fits { OnOk result (AreasFit D.Area geometry.now (RecoveryPhase.Resetting (record resets.now { next = resets.now.next + 1; is_closing = false })) areas.new) }
+    ensures areas { AreasFit D.Area geometry.now (RecoveryPhase.Syncing 0) areas.new }
     ensures call { OneCall D.Area resets.now.next areas.old areas.new (is_ok result) }
     ensures shows { (i : IsResetting geometry.now resets.now) → AreHonest D.Area areas.new
         → ShowLogs D.Area geometry.now areas.new i.store resets.now.segments.items }

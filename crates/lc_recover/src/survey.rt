@@ -8,9 +8,9 @@ ghost use Rattle.lc_recover.specs.Fault.{IsRefusal};
 ghost use Rattle.lc_recover.specs.KeptAreas.{IsReadOf, read_count};
 ghost use Rattle.lc_recover.specs.Reads.{area_len, AreHonest, AreLeftAs, AreOfBytes, HaveLengths, store_of};
 ghost use Rattle.lc_recover.specs.Recovery.{HasPageToWrite};
-ghost use Rattle.lc_recover.specs.Stage.{AreasFit};
+ghost use Rattle.lc_recover.specs.RecoveryPhase.{AreasFit};
 ghost use Rattle.lc_recover.specs.declared.fault.RecoverFault.TheVariants.{BadGeometry, DeviceFault as Failed, NoMemory};
-ghost use Rattle.lc_recover.specs.declared.stage.Stage.{Stage};
+ghost use Rattle.lc_recover.specs.declared.recovery_phase.RecoveryPhase.{RecoveryPhase};
 
 use crate::areas::first_wrong;
 use crate::log_extent::LogExtent;
@@ -18,7 +18,7 @@ use crate::merge::merge;
 use crate::page_writes::PageWrites;
 use crate::read_areas::ReadAreas;
 use crate::reading::read_area;
-use crate::records::records_of;
+use crate::record_cursor::records_of;
 use crate::{Forecast, RecoverFault};
 use lc_disk::Area;
 use lc_record::Geometry;
@@ -115,7 +115,7 @@ fn read_all<D: Area>(
     geometry: &Geometry,
     areas: &mut [D],
 ) -> Result<ReadAreas, RecoverFault>
-    requires { AreasFit D.Area geometry.now (Stage.Syncing 0) areas.old }
+    requires { AreasFit D.Area geometry.now (RecoveryPhase.Syncing 0) areas.old }
     ensures read { IfOk result (IsReadOf D.Area geometry.now areas.new) }
     ensures count { IfOk result (λ read. read_count read ≡ length areas.old) }
     ensures fault { IfErr result (λ fault. (fault ≡ NoMemory) ⊎ (fault ≡ Failed)) }

@@ -2,8 +2,8 @@
 ghost use Rattle.std.specs.Prelude.{◌≡◌, ◌+◌, ℕ, OnOk, map, is_ok, true};
 ghost use Rattle.lc_record.specs.Content.{Content};
 ghost use Rattle.lc_recover.specs.Reads.{AreHonest, AllMergeTo};
-ghost use Rattle.lc_recover.specs.Stage.{AreasFit, Fits, OneCall};
-ghost use Rattle.lc_recover.specs.declared.stage.Stage.{Stage};
+ghost use Rattle.lc_recover.specs.RecoveryPhase.{AreasFit, Fits, OneCall};
+ghost use Rattle.lc_recover.specs.declared.recovery_phase.RecoveryPhase.{RecoveryPhase};
 
 use lc_disk::{Area, DeviceFault};
 use lc_record::Geometry;
@@ -14,9 +14,9 @@ pub(crate) fn sync_area<D: Area>(
     areas: &mut [D],
     synced: usize,
 ) -> Result<(), DeviceFault>
-    requires { Fits D.Area geometry.now (Stage.Syncing synced) areas.old }
-    ensures fits { OnOk result (AreasFit D.Area geometry.now (Stage.Syncing (synced + 1)) areas.new) }
-    ensures areas { AreasFit D.Area geometry.now (Stage.Syncing 0) areas.new }
+    requires { Fits D.Area geometry.now (RecoveryPhase.Syncing synced) areas.old }
+    ensures fits { OnOk result (AreasFit D.Area geometry.now (RecoveryPhase.Syncing (synced + 1)) areas.new) }
+    ensures areas { AreasFit D.Area geometry.now (RecoveryPhase.Syncing 0) areas.new }
     ensures call { OneCall D.Area synced areas.old areas.new (is_ok result) }
     ensures reads { AreHonest D.Area areas.old → map D.now areas.new ≡ map D.now areas.old }
     ensures merges { (content : Content) (numbers : ℕ → ℕ) → AreHonest D.Area areas.new

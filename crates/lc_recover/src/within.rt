@@ -15,7 +15,7 @@ ghost use Rattle.lc_recover.specs.declared.fault.RecoverFault.TheVariants.{NoMem
 
 use crate::RecoverFault;
 use crate::page_count::{PAGE_LEN, page_count};
-use crate::records::records_of;
+use crate::record_cursor::records_of;
 use crate::segment_pages::SegmentPages;
 use lc_record::{Items, View};
 

@@ -11,7 +11,7 @@ use Rattle.lc_record.specs.Marks.{counting, ranges as count_ranges, is_empty}
 use Rattle.lc_record.specs.Newest.{byte_of}
 use Rattle.lc_record.specs.Record.{IsCanonical, IsRange}
 use Rattle.lc_record.specs.Recorded.{record_of, records_from, ranges_of, locks_of, laid, counted}
-use Rattle.lc_record.specs.Transaction.{Transaction, Written, IsWellFormed, all_set, is_member, effect}
+use Rattle.lc_record.specs.Transaction.{Transaction, ByteWrite, IsWellFormed, all_set, is_member, effect}
 use Rattle.lc_record.specs.declared.geometry.Geometry.{Geometry}
 use Rattle.lc_record.specs.declared.record.Lock.{Lock}
 use Rattle.lc_record.specs.declared.record.RangeData.{RangeData}
@@ -103,18 +103,18 @@ range-locks r canonical segment is = lock-member segment r.locks ((canonical.sam
 
 -- the places of each range are marked
 range-set : (g : Geometry) (r : Record) → IsTaken g r → (ranges : List RangeData) → ((s k : ℕ) → Has (map run_of ranges) s k → Has (map run_of r.ranges) s k)
-    → All (λ (w : Written). IsTrue (all_set w.offset (length w.bytes) (segment_of w.segment (marks_of g r.ranges)))) (map write_of ranges)
-range-set g r taken [] among = All-nil (λ (w : Written). IsTrue (all_set w.offset (length w.bytes) (segment_of w.segment (marks_of g r.ranges))))
+    → All (λ (w : ByteWrite). IsTrue (all_set w.offset (length w.bytes) (segment_of w.segment (marks_of g r.ranges)))) (map write_of ranges)
+range-set g r taken [] among = All-nil (λ (w : ByteWrite). IsTrue (all_set w.offset (length w.bytes) (segment_of w.segment (marks_of g r.ranges))))
 range-set g r taken (a ∷ ranges) among =
-    All-cons (λ (w : Written). IsTrue (all_set w.offset (length w.bytes) (segment_of w.segment (marks_of g r.ranges)))) (write_of a) (map write_of ranges)
+    All-cons (λ (w : ByteWrite). IsTrue (all_set w.offset (length w.bytes) (segment_of w.segment (marks_of g r.ranges)))) (write_of a) (map write_of ranges)
     (each-set a.offset (length a.bytes) (segment_of a.segment (marks_of g r.ranges)) (λ k low high. (marks-has g r.ranges taken.inside a.segment k).0 (among a.segment k (inl (refl, low, high)))))
     (range-set g r taken ranges (λ s k has. among s k (inr has)))
 
 range-locked : (r : Record) → IsCanonical r → (ranges : List RangeData) → ((s : ℕ) → is_member s (map (λ (l : RangeData). l.segment) ranges) ≡ true → is_member s (map (λ (l : RangeData). l.segment) r.ranges) ≡ true)
-    → All (λ (w : Written). IsTrue (is_member w.segment (locked r))) (map write_of ranges)
-range-locked r canonical [] among = All-nil (λ (w : Written). IsTrue (is_member w.segment (locked r)))
+    → All (λ (w : ByteWrite). IsTrue (is_member w.segment (locked r))) (map write_of ranges)
+range-locked r canonical [] among = All-nil (λ (w : ByteWrite). IsTrue (is_member w.segment (locked r)))
 range-locked r canonical (a ∷ ranges) among =
-    All-cons (λ (w : Written). IsTrue (is_member w.segment (locked r))) (write_of a) (map write_of ranges)
+    All-cons (λ (w : ByteWrite). IsTrue (is_member w.segment (locked r))) (write_of a) (map write_of ranges)
     (range-locks r canonical a.segment (among a.segment (ap (λ b. b || is_member a.segment (map (λ (l : RangeData). l.segment) ranges)) (eq-eqb a.segment a.segment refl))))
     (range-locked r canonical ranges (λ s is. among s (or_right (a.segment == s) (is_member s (map (λ (l : RangeData). l.segment) ranges)) is)))
 

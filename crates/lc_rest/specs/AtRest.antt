@@ -16,8 +16,8 @@ use Rattle.lc_trunc.specs.KnownClean.{known as known_of}
 use Rattle.lc_tx.specs.declared.image.Image.{Image as Picture}
 use Rattle.lc_rest.specs.Parts.{AreSpelled}
 use Rattle.lc_rest.specs.declared.node_part.NodePart.{NodePart}
-use Rattle.lc_rest.specs.declared.part.Part.{Part}
-use Rattle.lc_rest.specs.declared.part.Part.TheVariants.{Seat, Log, Token, Image}
+use Rattle.lc_rest.specs.declared.cluster_part.ClusterPart.{ClusterPart}
+use Rattle.lc_rest.specs.declared.cluster_part.ClusterPart.TheVariants.{Seat, Log, Token, Image}
 use Rattle.lc_rest.specs.declared.parts.Parts.{Parts}
 use Rattle.lc_rest.specs.declared.segment_part.SegmentPart.{SegmentPart}
 
@@ -49,7 +49,7 @@ pub record IsFirst (Keeps : ℕ → Type 0) (least n : ℕ) : Type 0 where
   pub fails : Keeps n → ⊥
 
 -- a cluster of this geometry has the part
-abbrev pub HasPart : Geometry → Part → Type 0
+abbrev pub HasPart : Geometry → ClusterPart → Type 0
 HasPart g (Seat node) = node < g.nodes
 HasPart g (Log node) = node < g.nodes
 HasPart g (Token segment) = (1 ≤ segment) × (segment ≤ g.segments)
@@ -123,7 +123,7 @@ module _ {D : Type 0} (a : Ghosts D) where
 
   -- the test of this part is the first that fails: first those of the nodes, then of the tokens, then of the merge, whose least node
   -- that is stuck is named, and then of the images
-  abbrev pub Fails : Parts D a → Read → Part → Type 0
+  abbrev pub Fails : Parts D a → Read → ClusterPart → Type 0
   Fails parts h (Seat node) = ⊥
   Fails parts h (Log node) = (node < h.geometry.nodes) × (IsFirst (KeepsOwn parts h) 0 node
       ⊎ (AllKeepOwn parts h × AllKeepTokens h × ((turns : List ℕ) × IsStuck h.logs h.numbers turns node)))
@@ -131,7 +131,7 @@ module _ {D : Type 0} (a : Ghosts D) where
   Fails parts h (Image segment) = (segment ≤ h.geometry.segments) × AllKeepOwn parts h × AllKeepTokens h × AreMerged h × IsFirst (KeepsImages parts h) 1 segment
 
   -- so it is with what the parts are
-  abbrev pub FailsFirst : Parts D a → Part → Type 0
+  abbrev pub FailsFirst : Parts D a → ClusterPart → Type 0
   FailsFirst parts part = (h : Read) × IsReadOf parts h × AreReadAreas parts h × Fails parts h part
 
   -- and so all tests pass

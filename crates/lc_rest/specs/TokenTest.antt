@@ -2,7 +2,7 @@
 use Rattle.std.specs.Prelude.{◌≡◌, ◌⊎◌, ℕ, ◌+◌, ◌-◌, ◌*◌, ◌^◌, ◌<◌, ◌≤◌, Bool, true, false, nat_lt, List, [], ◌∷◌, length, filter, All, Some, slice_index_or}
 use Rattle.lc_page.specs.Page.{page_in, text_in}
 use Rattle.lc_page.specs.PageVector.{entry_at, entry_text}
-use Rattle.lc_page.specs.declared.entry.Entry.{Entry}
+use Rattle.lc_page.specs.declared.page_entry.PageEntry.{PageEntry}
 use Rattle.lc_record.specs.Part.{number_in}
 use Rattle.lc_record.specs.declared.record.RangeData.{RangeData}
 use Rattle.lc_record.specs.declared.record.Record.{Record}
@@ -17,11 +17,11 @@ abbrev pub ReachesPage : RangeData → ℕ → Type 0
 ReachesPage range page = (range.offset < page * 256 + 256) × (page * 256 < range.offset + length range.bytes)
 
 -- under this number the page is touched, and where the number is clean it is on the page
-abbrev pub IsKeptPage : ℕ → ℕ → List ℕ → List Entry → ℕ → Type 0
+abbrev pub IsKeptPage : ℕ → ℕ → List ℕ → List PageEntry → ℕ → Type 0
 IsKeptPage number clean area entries page = (number ≤ (entry_at entries page).touched) × (number ≤ clean → number ≤ (page_in area page).sequence)
 
 -- so it is with each page on which the range has a byte
-abbrev pub IsKeptRange : ℕ → ℕ → ℕ → List ℕ → List Entry → RangeData → Type 0
+abbrev pub IsKeptRange : ℕ → ℕ → ℕ → List ℕ → List PageEntry → RangeData → Type 0
 IsKeptRange number clean pages area entries range = (page : ℕ) → page < pages → ReachesPage range page → IsKeptPage number clean area entries page
 
 -- a number of a record of this node, stable or not, against the least that is not stable
@@ -31,7 +31,7 @@ pub record IsOnItsSide (least : ℕ) (holder : Holder) (stable : Bool) (node num
   pub home : stable ≡ false → holder ≡ Here node
 
 -- a record, if it is of the segment
-abbrev pub IsKeptRecord : ℕ → ℕ → ℕ → ℕ → Holder → List ℕ → List Entry → Bool → Record → Type 0
+abbrev pub IsKeptRecord : ℕ → ℕ → ℕ → ℕ → Holder → List ℕ → List PageEntry → Bool → Record → Type 0
 IsKeptRecord segment least clean pages holder area entries stable r =
     (number : ℕ) → number_in segment r.locks ≡ Some number →
     IsOnItsSide least holder stable r.node number × All (λ (range : RangeData). range.segment ≡ segment → IsKeptRange number clean pages area entries range) r.ranges
@@ -58,7 +58,7 @@ pub record IsLowered (segment : ℕ) (log : List Record) (from to old new : ℕ)
   pub is : (new ≡ old) ⊎ ((place : ℕ) × (from ≤ place) × (place < length log) × (number_in segment (slice_index_or log place no_record).locks ≡ Some new))
 
 -- what the token says of the page is what its area says, and the page is below this number
-pub record IsReadPage (least : ℕ) (area : List ℕ) (entries : List Entry) (page : ℕ) : Type 0 where
+pub record IsReadPage (least : ℕ) (area : List ℕ) (entries : List PageEntry) (page : ℕ) : Type 0 where
   pub below : (page_in area page).sequence < least
   pub text : entry_text (entry_at entries page) ≡ text_in area page
 

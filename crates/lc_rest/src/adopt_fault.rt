@@ -2,7 +2,7 @@
 ghost use Rattle.std.specs.Prelude.{◌≡◌};
 ghost use Rattle.lc_rest.specs.declared.adopt_fault.AdoptFault.TheVariants.{DeviceFault as Failed, NoMemory};
 
-use crate::part::Part;
+use crate::cluster_part::ClusterPart;
 use lc_disk::DeviceFault;
 use std::alloc::AllocError;
 use thiserror::Error;
@@ -12,7 +12,7 @@ use thiserror::Error;
 pub enum AdoptFault {
     /// This part does not agree with the others.
     #[error("{0} does not agree with the rest of the cluster")]
-    Mismatch(Part),
+    Mismatch(ClusterPart),
     /// There is no memory.
     #[error("there is no memory")]
     NoMemory,

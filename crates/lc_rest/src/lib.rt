@@ -3,6 +3,7 @@
 #![tactic(auto)]
 
 mod adopt_fault;
+mod cluster_part;
 mod holder;
 mod image_test;
 mod laws;
@@ -11,7 +12,6 @@ mod merge;
 mod node_part;
 mod numbers_test;
 mod order;
-mod part;
 mod parts;
 mod reading;
 mod replay;
@@ -21,6 +21,7 @@ mod stable;
 mod token_test;
 
 pub use adopt_fault::AdoptFault;
+pub use cluster_part::ClusterPart;
 pub use holder::Holder;
 pub use image_test::comes_up;
 pub use laws::{
@@ -31,7 +32,6 @@ pub use merge::merge_records;
 pub use node_part::NodePart;
 pub use numbers_test::keeps_numbers;
 pub use order::in_order;
-pub use part::Part;
 pub use parts::Parts;
 pub use reading::read_bytes;
 pub use replay::replay_segment;

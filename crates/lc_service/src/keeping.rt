@@ -3,9 +3,9 @@ ghost use Rattle.std.specs.Prelude.{IfErr, OnOk};
 ghost use Rattle.lc_node.specs.Cluster.{HasNode};
 ghost use Rattle.lc_service.specs.Round.{IsUnkept, IsUnkeptAt, WasKept, WasKeptAt};
 
-use crate::member_round::At;
+use crate::member_round::ClusterNode;
 use crate::round::Round;
-use crate::{Ending, Upkeep};
+use crate::{ShutdownSignal, Upkeep};
 use lc_disk::Area;
 use lc_node::{Cluster, Node, NodeFault};
 use std::rt::Clock;
@@ -23,7 +23,7 @@ pub fn keep_node<D: Area + Drop, R: AllocGlobal + Clock + Wait>(
     rt: &R,
     node: &Node<D>,
     upkeep: &Upkeep,
-    ending: &Ending,
+    ending: &ShutdownSignal,
 ) -> Result<(), NodeFault>
     ensures kept { OnOk result (WasKept D.Area upkeep.now node.now) }
     ensures refused { IfErr result (IsUnkept D.Area node.now) }
@@ -42,13 +42,13 @@ pub fn keep_member<D: Area + Drop, R: AllocGlobal + Clock + Wait>(
     cluster: &Cluster<D>,
     number: u16,
     upkeep: &Upkeep,
-    ending: &Ending,
+    ending: &ShutdownSignal,
 ) -> Result<(), NodeFault>
     requires { HasNode cluster.now number }
     ensures kept { OnOk result (WasKeptAt D.Area upkeep.now cluster.now number) }
     ensures refused { IfErr result (IsUnkeptAt D.Area cluster.now number) }
 {
-    keep(rt, &At { cluster, number }, upkeep, ending)
+    keep(rt, &ClusterNode { cluster, number }, upkeep, ending)
 }
 
 // A round after each wait, until it is told to end.
@@ -56,7 +56,7 @@ fn keep<K: Round, R: AllocGlobal + Clock + Wait>(
     rt: &R,
     kept: &K,
     upkeep: &Upkeep,
-    ending: &Ending,
+    ending: &ShutdownSignal,
 ) -> Result<(), NodeFault>
     ensures kept { OnOk result (K.kept upkeep.now kept.now) }
     ensures refused { IfErr result (K.unkept kept.now) }

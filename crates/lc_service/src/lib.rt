@@ -2,14 +2,14 @@
 #![tactic(auto)]
 
 mod acquiring;
-mod ending;
 mod keeping;
 mod member_round;
 mod node_round;
 mod round;
+mod shutdown_signal;
 mod upkeep;
 
 pub use acquiring::acquire;
-pub use ending::Ending;
 pub use keeping::{keep_member, keep_node};
+pub use shutdown_signal::ShutdownSignal;
 pub use upkeep::Upkeep;

@@ -17,14 +17,15 @@ const MOST_MESSAGES: u32 = 64;
 
 /// A node of a cluster, by its number.
 #[derive(Drop)]
-pub(crate) struct At<'a, D: Area + Drop> {
+pub(crate) struct ClusterNode<'a, D: Area + Drop> {
     pub(crate) cluster: &'a Cluster<D>,
     pub(crate) number: u16,
     ghost there: { HasNode cluster.now number },
 }
 
-impl<D: Area + Drop> Round for At<'_, D> {
+impl<D: Area + Drop> Round for ClusterNode<'_, D> {
     ghost kept = { λ upkeep at. WasKeptAt D.Area upkeep at.cluster.now at.number };
+
     ghost unkept = { λ at. IsUnkeptAt D.Area at.cluster.now at.number };
 
     /// It sends what is published, goes on with what came, and trims, too.

@@ -9,6 +9,7 @@ use std::sync::Wait;
 
 impl<D: Area + Drop> Round for Node<D> {
     ghost kept = { WasKept D.Area };
+
     ghost unkept = { IsUnkept D.Area };
 
     fn round<R: AllocGlobal + Wait>(&self, rt: &R, upkeep: &Upkeep) -> Result<(), NodeFault> {

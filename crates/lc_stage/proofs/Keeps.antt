@@ -8,25 +8,25 @@ use lib.Seq.{set-get_or}
 use prog.Atomic.{either}
 use Rattle.atomic_table.specs.Table.{State, Me, step, keeps, stepped, Allows}
 use Rattle.atomic_table.proofs.Lists.{at_set}
-use Rattle.lc_stage.specs.declared.view.Reservation.{Reservation}
-use Rattle.lc_stage.specs.declared.view.View.{View}
-use Rattle.lc_stage.specs.declared.view.Load.{Load}
-use Rattle.lc_stage.specs.Staging.{row, word_of, below, within, lies, covered, total, IsOneRecord, Has, Owns, InLog, Sound, Taken, Ended, Known, Staged, Honest, AreRecords, Holds, seal_weight, seal_of, round_of, offset_of, reservation, newcomer, newest, saw, reserved, filled, shut_with, loaded, looked, put, closed, headed, copied, published}
+use Rattle.lc_stage.specs.declared.stage_view.Reservation.{Reservation}
+use Rattle.lc_stage.specs.declared.stage_view.StageView.{StageView}
+use Rattle.lc_stage.specs.declared.stage_view.Load.{Load}
+use Rattle.lc_stage.specs.Staging.{row, word_of, below, within, lies, covered, total, IsOneRecord, Has, Owns, InLog, Sound, TakenInRound, EndedRow, Known, Staged, Honest, AreRecords, Holds, seal_weight, seal_of, round_of, offset_of, reservation, newcomer, newest, saw, reserved, filled, shut_with, loaded, looked, put, closed, headed, copied, published}
 use Rattle.lc_stage.specs.Staging as is
 use Rattle.lc_stage.proofs.Records.{some_record}
 use Rattle.lc_stage.proofs.Rows.{row_fits, rows_apart}
 use Rattle.lc_stage.proofs.Counting.{total_set, total_at, total_two, total_found, covered_at, covered_two, covered_found, lies_here, lies_in, lies_same, below_one, below_of, below_in, below_step}
 
 abbrev pub St : Type 0
-St = State (Unit {0}) View
+St = State (Unit {0}) StageView
 
 abbrev pub M : Type 0
-M = Me (Unit {0}) View
+M = Me (Unit {0}) StageView
 
 abbrev pub tail : St → ℕ
 tail s = get_or s.words 0 0
 
-abbrev pub at_place : ℕ → ℕ → View → ℕ
+abbrev pub at_place : ℕ → ℕ → StageView → ℕ
 at_place n p v = covered n p v.mine
 
 pub one_at_most : (room : ℕ) (s : St) → (rule : Staged room s) → (p : ℕ) → total (at_place rule.round p) s.views ≤ 1
@@ -37,7 +37,7 @@ pub alone : (room : ℕ) (s : St) → (rule : Staged room s) → (p : ℕ) (q r 
 alone room s rule p q r hq hr lq lr = let n : ℕ = rule.round in let top = one_at_most room s rule p in dite (ℕ_discrete hq.0 hr.0)
     (λ same. let v_same : hq.1 ≡ hr.1 = some-injective hq.1 hr.1 (sym hq.3 ∙ (ap (get_elem? s.views) same ∙ hr.3)) in dite (ℕ_discrete hq.2 hr.2)
     (λ i_same. (some-injective q r (sym hq.4 ∙ ((λ k. get_elem? (v_same k).mine (i_same k)) ∙ hr.4)), same, i_same))
-    (λ apart. let two = covered_two n p hr.1.mine hq.2 hr.2 q r (subst (λ (v : View). get_elem? v.mine hq.2 ≡ some q) v_same hq.4) hr.4 apart in
+    (λ apart. let two = covered_two n p hr.1.mine hq.2 hr.2 q r (subst (λ (v : StageView). get_elem? v.mine hq.2 ≡ some q) v_same hq.4) hr.4 apart in
     let one = total_at (at_place n p) s.views hr.0 hr.1 hr.3 in absurd (omega arith)))
     (λ apart. let two = total_two (at_place n p) s.views hq.0 hr.0 hq.1 hr.1 hq.3 hr.3 apart in let a = covered_at n p hq.1.mine hq.2 q hq.4 in let b = covered_at n p hr.1.mine hr.2 r hr.4 in absurd (omega arith))
 
@@ -54,29 +54,29 @@ ends_below room s rule r h here = let some_words = (rule.sound r h).filled in le
 pub covers : (room : ℕ) (s : St) → (rule : Staged room s) → (p : ℕ) → p < rule.offset → (r : Reservation) × Has s.views r × (0 < lies rule.round p r)
 covers room s rule p l = let n : ℕ = rule.round in let t = rule.tiled p in let b = below_in p rule.offset l in let f = total_found (at_place n p) s.views (omega arith) in let g = covered_found n p f.1.mine f.3 in (g.1, (f.0, f.1, g.0, f.2, g.2), g.3)
 
-pub has_set : (vs : List View) (id : ℕ) (w : View) (r : Reservation) → Has (set vs id w) r
-    → ((i : ℕ) × (get_elem? w.mine i ≡ some r)) ⊎ ((j : ℕ) × (v : View) × (i : ℕ) × (j ≢ id) × (get_elem? vs j ≡ some v) × (get_elem? v.mine i ≡ some r))
-has_set vs id w r h = ⊎_elim (λ (t : (h.0 ≡ id) × (w ≡ h.1)). inl (h.2, subst (λ (z : View). get_elem? z.mine h.2 ≡ some r) (sym t.1) h.4)) (λ (t : (h.0 ≢ id) × (get_elem? vs h.0 ≡ some h.1)). inr (h.0, h.1, h.2, t.0, t.1, h.4)) (at_set vs id h.0 w h.1 h.3)
+pub has_set : (vs : List StageView) (id : ℕ) (w : StageView) (r : Reservation) → Has (set vs id w) r
+    → ((i : ℕ) × (get_elem? w.mine i ≡ some r)) ⊎ ((j : ℕ) × (v : StageView) × (i : ℕ) × (j ≢ id) × (get_elem? vs j ≡ some v) × (get_elem? v.mine i ≡ some r))
+has_set vs id w r h = ⊎_elim (λ (t : (h.0 ≡ id) × (w ≡ h.1)). inl (h.2, subst (λ (z : StageView). get_elem? z.mine h.2 ≡ some r) (sym t.1) h.4)) (λ (t : (h.0 ≢ id) × (get_elem? vs h.0 ≡ some h.1)). inr (h.0, h.1, h.2, t.0, t.1, h.4)) (at_set vs id h.0 w h.1 h.3)
 
 -- a seat that keeps its reservations leaves all as they are
-pub has_back : (vs : List View) (id : ℕ) (v w : View) (r : Reservation) → get_elem? vs id ≡ some v → w.mine ≡ v.mine → Has (set vs id w) r → Has vs r
+pub has_back : (vs : List StageView) (id : ℕ) (v w : StageView) (r : Reservation) → get_elem? vs id ≡ some v → w.mine ≡ v.mine → Has (set vs id w) r → Has vs r
 has_back vs id v w r at same h = ⊎_elim (λ (t : (i : ℕ) × (get_elem? w.mine i ≡ some r)). (id, v, t.0, at, subst (λ (z : List Reservation). get_elem? z t.0 ≡ some r) same t.1))
-    (λ (t : (j : ℕ) × (u : View) × (i : ℕ) × (j ≢ id) × (get_elem? vs j ≡ some u) × (get_elem? u.mine i ≡ some r)). (t.0, t.1, t.2, t.4, t.5)) (has_set vs id w r h)
+    (λ (t : (j : ℕ) × (u : StageView) × (i : ℕ) × (j ≢ id) × (get_elem? vs j ≡ some u) × (get_elem? u.mine i ≡ some r)). (t.0, t.1, t.2, t.4, t.5)) (has_set vs id w r h)
 
 -- what the flusher's view says of what was taken is in both views the same
-abbrev pub SameLog : View → View → Type 0
+abbrev pub SameLog : StageView → StageView → Type 0
 SameLog f g = (g.past ≡ f.past) × (g.taken ≡ f.taken) × (g.sealed ≡ f.sealed) × (g.cleared ≡ f.cleared) × (g.sealed_at ≡ f.sealed_at)
 
-pub took_back : (vs : List View) (id : ℕ) (v w f : View) → get_elem? vs id ≡ some v → SameLog v w → get_elem? (set vs id w) 0 ≡ some f → (g : View) × (get_elem? vs 0 ≡ some g) × SameLog g f
-took_back vs id v w f at same e = ⊎_elim (λ (t : (0 ≡ id) × (w ≡ f)). (v, subst (λ (z : ℕ). get_elem? vs z ≡ some v) (sym t.0) at, subst (λ (z : View). SameLog v z) t.1 same))
+pub took_back : (vs : List StageView) (id : ℕ) (v w f : StageView) → get_elem? vs id ≡ some v → SameLog v w → get_elem? (set vs id w) 0 ≡ some f → (g : StageView) × (get_elem? vs 0 ≡ some g) × SameLog g f
+took_back vs id v w f at same e = ⊎_elim (λ (t : (0 ≡ id) × (w ≡ f)). (v, subst (λ (z : ℕ). get_elem? vs z ≡ some v) (sym t.0) at, subst (λ (z : StageView). SameLog v z) t.1 same))
     (λ (t : (0 ≢ id) × (get_elem? vs 0 ≡ some f)). (f, t.1, (refl, refl, refl, refl, refl))) (at_set vs id 0 w f e)
 
 -- what the flusher's view says of the round before is in both views the same
-abbrev pub SameEnded : View → View → Type 0
+abbrev pub SameEnded : StageView → StageView → Type 0
 SameEnded f g = (g.past ≡ f.past) × (g.ended ≡ f.ended) × (g.ended_cleared ≡ f.ended_cleared)
 
-same_ended : (room : ℕ) (ws ws' : List ℕ) (round ended ended_cleared : ℕ) (f g : View) → SameEnded f g → ((p : ℕ) → p < room → get_or ws' (word_of room (1 + round) p) 0 ≡ get_or ws (word_of room (1 + round) p) 0) → get_or ws 1 0 ≤ get_or ws' 1 0
-    → Ended room ws round ended ended_cleared f → Ended room ws' round ended ended_cleared g
+same_ended : (room : ℕ) (ws ws' : List ℕ) (round ended ended_cleared : ℕ) (f g : StageView) → SameEnded f g → ((p : ℕ) → p < room → get_or ws' (word_of room (1 + round) p) 0 ≡ get_or ws (word_of room (1 + round) p) 0) → get_or ws 1 0 ≤ get_or ws' 1 0
+    → EndedRow room ws round ended ended_cleared f → EndedRow room ws' round ended ended_cleared g
 same_ended room ws ws' round ended ended_cleared f g same still rises t = let fits = t.inside.0 in let below_end = t.inside.1 in record {
   inside = t.inside;
   empty = λ p l m. still p m ∙ t.empty p l m;
@@ -88,25 +88,25 @@ same_ended room ws ws' round ended ended_cleared f g same still rises t = let fi
 }
 
 -- the round before stays as it is where its row does
-pub ended_back : (room : ℕ) (s : St) → (rule : Staged room s) → (id : ℕ) (v w : View) (ws : List ℕ) → get_elem? s.views id ≡ some v → SameEnded v w
+pub ended_back : (room : ℕ) (s : St) → (rule : Staged room s) → (id : ℕ) (v w : StageView) (ws : List ℕ) → get_elem? s.views id ≡ some v → SameEnded v w
     → ((p : ℕ) → p < room → get_or ws (word_of room (1 + rule.round) p) 0 ≡ get_or s.words (word_of room (1 + rule.round) p) 0) → get_or s.words 1 0 ≤ get_or ws 1 0
-    → (f : View) → get_elem? (set s.views id w) 0 ≡ some f → Ended room ws rule.round rule.ended rule.ended_cleared f
+    → (f : StageView) → get_elem? (set s.views id w) 0 ≡ some f → EndedRow room ws rule.round rule.ended rule.ended_cleared f
 ended_back room s rule id v w ws at same still rises f e = ⊎_elim
-    (λ (t : (0 ≡ id) × (w ≡ f)). subst (Ended room ws rule.round rule.ended rule.ended_cleared) t.1 (same_ended room s.words ws rule.round rule.ended rule.ended_cleared v w same still rises (rule.before v (subst (λ (z : ℕ). get_elem? s.views z ≡ some v) (sym t.0) at))))
+    (λ (t : (0 ≡ id) × (w ≡ f)). subst (EndedRow room ws rule.round rule.ended rule.ended_cleared) t.1 (same_ended room s.words ws rule.round rule.ended rule.ended_cleared v w same still rises (rule.before v (subst (λ (z : ℕ). get_elem? s.views z ≡ some v) (sym t.0) at))))
     (λ (t : (0 ≢ id) × (get_elem? s.views 0 ≡ some f)). same_ended room s.words ws rule.round rule.ended rule.ended_cleared f f (refl, refl, refl) still rises (rule.before f t.1)) (at_set s.views id 0 w f e)
 
 -- a seat that makes no load of a place leaves the flusher's loads
-pub loads_back : (vs : List View) (id : ℕ) (v w f : View) → get_elem? vs id ≡ some v → w.loads ≡ v.loads → get_elem? (set vs id w) 0 ≡ some f → (g : View) × (get_elem? vs 0 ≡ some g) × (f.loads ≡ g.loads)
-loads_back vs id v w f at same e = ⊎_elim (λ (t : (0 ≡ id) × (w ≡ f)). (v, subst (λ (z : ℕ). get_elem? vs z ≡ some v) (sym t.0) at, subst (λ (z : View). z.loads ≡ v.loads) t.1 same))
+pub loads_back : (vs : List StageView) (id : ℕ) (v w f : StageView) → get_elem? vs id ≡ some v → w.loads ≡ v.loads → get_elem? (set vs id w) 0 ≡ some f → (g : StageView) × (get_elem? vs 0 ≡ some g) × (f.loads ≡ g.loads)
+loads_back vs id v w f at same e = ⊎_elim (λ (t : (0 ≡ id) × (w ≡ f)). (v, subst (λ (z : ℕ). get_elem? vs z ≡ some v) (sym t.0) at, subst (λ (z : StageView). z.loads ≡ v.loads) t.1 same))
     (λ (t : (0 ≢ id) × (get_elem? vs 0 ≡ some f)). (f, t.1, refl)) (at_set vs id 0 w f e)
 
 -- it stays honest where no reservation is made or closed and no place is loaded
-pub honest_back : (room : ℕ) (s : St) → (rule : Staged room s) → (id : ℕ) (v w : View) → get_elem? s.views id ≡ some v → w.mine ≡ v.mine → w.loads ≡ v.loads → (f : View) → get_elem? (set s.views id w) 0 ≡ some f → Honest (set s.views id w) rule.round f
+pub honest_back : (room : ℕ) (s : St) → (rule : Staged room s) → (id : ℕ) (v w : StageView) → get_elem? s.views id ≡ some v → w.mine ≡ v.mine → w.loads ≡ v.loads → (f : StageView) → get_elem? (set s.views id w) 0 ≡ some f → Honest (set s.views id w) rule.round f
 honest_back room s rule id v w at mine same f e = let g = loads_back s.views id v w f at same e in let k : length f.loads ≡ length g.0.loads = ap (λ (z : List Load). length z) g.2 in
     ((λ j p l r h. (rule.honest g.0 g.1).0 j p (ap (λ (z : List Load). get_elem? z j) (sym g.2) ∙ l) r (has_back s.views id v w r at mine h)), λ r h shut. let y = (rule.honest g.0 g.1).1 r (has_back s.views id v w r at mine h) shut in omega arith)
 
 -- what is known of the flusher's log goes to another view that says the same of it
-pub same_taken : (room : ℕ) (ws : List ℕ) (vs : List View) (round offset : ℕ) (sealed : Bool) (cleared : ℕ) (f g : View) → SameLog f g → Taken room ws vs round offset sealed cleared f → Taken room ws vs round offset sealed cleared g
+pub same_taken : (room : ℕ) (ws : List ℕ) (vs : List StageView) (round offset : ℕ) (sealed : Bool) (cleared : ℕ) (f g : StageView) → SameLog f g → TakenInRound room ws vs round offset sealed cleared f → TakenInRound room ws vs round offset sealed cleared g
 same_taken room ws vs round offset sealed cleared f g same t = let long : length g.taken ≡ length f.taken = ap (λ (l : List ℕ). length l) same.1 in let reach = t.reach in let low = t.stable in record {
   rounds = ap (λ (l : List (List ℕ)). length l) same.0 ∙ t.rounds;
   reach = omega arith;
@@ -141,7 +141,7 @@ SamePlaces ws ws' = (j : ℕ) → 2 ≤ j → get_or ws' j 0 ≡ get_or ws j 0
 pub sound_kept : (room : ℕ) (ws ws' : List ℕ) (round cleared ended_cleared : ℕ) (r : Reservation) → SamePlaces ws ws' → Sound room ws round cleared ended_cleared r → Sound room ws' round cleared ended_cleared r
 sound_kept room ws ws' round cleared ended_cleared r still h = sound_moved room ws ws' round cleared ended_cleared r (λ _ p _ _. still (word_of room round p) (omega arith)) (λ _ p _. still (word_of room r.round p) (omega arith)) h
 
-pub knows_more : (ws ws' : List ℕ) (id : ℕ) (v w : View) → get_or ws 0 0 ≤ get_or ws' 0 0 → get_or ws 1 0 ≤ get_or ws' 1 0 → (v.flushes ≡ true → get_or ws' 1 0 ≡ get_or ws 1 0) → w.seen ≡ v.seen → w.durable ≡ v.durable → w.published ≡ v.published → w.flushes ≡ v.flushes → w.heard ≡ v.heard → w.receipts ≡ v.receipts → ((r : Reservation) → Owns v.mine r → r.closed ≡ true → Owns w.mine r)
+pub knows_more : (ws ws' : List ℕ) (id : ℕ) (v w : StageView) → get_or ws 0 0 ≤ get_or ws' 0 0 → get_or ws 1 0 ≤ get_or ws' 1 0 → (v.flushes ≡ true → get_or ws' 1 0 ≡ get_or ws 1 0) → w.seen ≡ v.seen → w.durable ≡ v.durable → w.published ≡ v.published → w.flushes ≡ v.flushes → w.heard ≡ v.heard → w.receipts ≡ v.receipts → ((r : Reservation) → Owns v.mine r → r.closed ≡ true → Owns w.mine r)
     → Known ws id v → Known ws' id w
 knows_more ws ws' id v w more rises level b c d e h same own k = let k1 = k.seen in let k2 = k.durable in let k3 = k.published in let k4 = k.heard in record {
   seen = omega arith;
@@ -155,12 +155,12 @@ knows_more ws ws' id v w more rises level b c d e h same own k = let k1 = k.seen
 }
 
 -- the rule after a step of the seat id, from v to w, in the same round
-pub rebuilt : (room : ℕ) (s : St) → (rule : Staged room s) → (id offset : ℕ) (v w : View) (ws : List ℕ) → get_elem? s.views id ≡ some v → length ws ≡ length s.words
+pub rebuilt : (room : ℕ) (s : St) → (rule : Staged room s) → (id offset : ℕ) (v w : StageView) (ws : List ℕ) → get_elem? s.views id ≡ some v → length ws ≡ length s.words
     → get_or ws 0 0 ≡ rule.round * 65536 + offset + seal_weight rule.sealed → rule.offset ≤ offset → offset ≤ room
     → ((p : ℕ) → covered rule.round p w.mine + below p rule.offset ≡ covered rule.round p v.mine + below p offset) → ((r : Reservation) → Has (set s.views id w) r → Sound room ws rule.round rule.cleared rule.ended_cleared r)
     → ((p : ℕ) → offset ≤ p → p < room → get_or ws (word_of room rule.round p) 0 ≡ 0) → ((p : ℕ) → p < rule.cleared → get_or ws (word_of room rule.round p) 0 ≡ 0)
     → get_or s.words 1 0 ≤ get_or ws 1 0 → (id ≢ 0 → get_or ws 1 0 ≡ get_or s.words 1 0) → Known ws id w
-    → ((f : View) → get_elem? (set s.views id w) 0 ≡ some f → Taken room ws (set s.views id w) rule.round offset rule.sealed rule.cleared f) → ((f : View) → get_elem? (set s.views id w) 0 ≡ some f → Ended room ws rule.round rule.ended rule.ended_cleared f) → ((f : View) → get_elem? (set s.views id w) 0 ≡ some f → Honest (set s.views id w) rule.round f)
+    → ((f : StageView) → get_elem? (set s.views id w) 0 ≡ some f → TakenInRound room ws (set s.views id w) rule.round offset rule.sealed rule.cleared f) → ((f : StageView) → get_elem? (set s.views id w) 0 ≡ some f → EndedRow room ws rule.round rule.ended rule.ended_cleared f) → ((f : StageView) → get_elem? (set s.views id w) 0 ≡ some f → Honest (set s.views id w) rule.round f)
     → Staged room record { words = ws; homes = s.homes; views = set s.views id w }
 rebuilt room s rule id offset v w ws at long tail_is more fits count sound empty zeros rises level known took before honest = let t0 = rule.tail_is in let up : get_or s.words 0 0 ≤ get_or ws 0 0 = omega arith in record {
   round = rule.round;
@@ -177,7 +177,7 @@ rebuilt room s rule id offset v w ws at long tail_is more fits count sound empty
   sound = sound;
   empty = empty;
   zeros = zeros;
-  known = λ j u e. ⊎_elim (λ (t : (j ≡ id) × (w ≡ u)). subst (λ (z : ℕ × View). Known ws z.0 z.1) (λ i. (sym t.0 i, t.1 i)) known)
+  known = λ j u e. ⊎_elim (λ (t : (j ≡ id) × (w ≡ u)). subst (λ (z : ℕ × StageView). Known ws z.0 z.1) (λ i. (sym t.0 i, t.1 i)) known)
       (λ (t : (j ≢ id) × (get_elem? s.views j ≡ some u)). knows_more s.words ws j u u up rises (λ y. level (λ z. t.0 ((rule.known j u t.1).flusher y ∙ sym z))) refl refl refl refl refl refl (λ _ o _. o) (rule.known j u t.1)) (at_set s.views id j w u e);
   took = took;
   before = before;
@@ -185,7 +185,7 @@ rebuilt room s rule id offset v w ws at long tail_is more fits count sound empty
 }
 
 -- a step that changes no word, no reservation and nothing that was taken
-pub quiet : (room : ℕ) (s : St) → (rule : Staged room s) → (id : ℕ) (v w : View) → get_elem? s.views id ≡ some v → w.mine ≡ v.mine → SameLog v w → SameEnded v w → Known s.words id w → ((f : View) → get_elem? (set s.views id w) 0 ≡ some f → Honest (set s.views id w) rule.round f)
+pub quiet : (room : ℕ) (s : St) → (rule : Staged room s) → (id : ℕ) (v w : StageView) → get_elem? s.views id ≡ some v → w.mine ≡ v.mine → SameLog v w → SameEnded v w → Known s.words id w → ((f : StageView) → get_elem? (set s.views id w) 0 ≡ some f → Honest (set s.views id w) rule.round f)
     → Staged room record { words = s.words; homes = s.homes; views = set s.views id w }
 quiet room s rule id v w at mine same same_before known honest = let n : ℕ = rule.round in rebuilt room s rule id rule.offset v w s.words at refl rule.tail_is (le_refl rule.offset) rule.fits.0 (λ p. ap (λ (z : List Reservation). covered n p z + below p rule.offset) mine)
     (λ r h. rule.sound r (has_back s.views id v w r at mine h)) rule.empty rule.zeros (le_refl (get_or s.words 1 0)) (λ _. refl) known
@@ -203,10 +203,10 @@ quiet room s rule id v w at mine same same_before known honest = let n : ℕ = r
       clears = t.clears;
     }) (ended_back room s rule id v w s.words at same_before (λ _ _. refl) (le_refl (get_or s.words 1 0))) honest
 
-pub loads : (room : ℕ) (s : St) (i id : ℕ) (w : View) → Staged room record { words = s.words; homes = s.homes; views = set s.views id w } → (me : M) → Staged room (stepped s i (get_or s.words i 0) id me.1 w keeps)
+pub loads : (room : ℕ) (s : St) (i id : ℕ) (w : StageView) → Staged room record { words = s.words; homes = s.homes; views = set s.views id w } → (me : M) → Staged room (stepped s i (get_or s.words i 0) id me.1 w keeps)
 loads room s i id w h me = subst (λ (ws : List ℕ). Staged room record { words = ws; homes = s.homes; views = set s.views id w }) (sym (set-get_or s.words i 0)) h
 
-sees : (room : ℕ) (s : St) → Staged room s → (id : ℕ) (v : View) → get_elem? s.views id ≡ some v → Known s.words id (saw (tail s) v)
+sees : (room : ℕ) (s : St) → Staged room s → (id : ℕ) (v : StageView) → get_elem? s.views id ≡ some v → Known s.words id (saw (tail s) v)
 sees room s rule id v at = let k = rule.known id v at in record { seen = le_refl (tail s); durable = k.durable; published = k.published; heard = k.heard; receipts = k.receipts; stored = k.stored; flusher = k.flusher; first = k.first }
 
 weight_is : (b : Bool) → ((b ≡ false) × (seal_weight b ≡ 0)) ⊎ ((b ≡ true) × (seal_weight b ≡ 32768))
@@ -224,7 +224,7 @@ pub tail_unsealed : (room : ℕ) (s : St) → (rule : Staged room s) → seal_of
 tail_unsealed room s rule h = let t = rule.tail_is in let f = rule.fits.0 in let g = rule.fits.1 in ⊎_elim (λ (z : (rule.sealed ≡ false) × (seal_weight rule.sealed ≡ 0)). z.0) (λ (z : (rule.sealed ≡ true) × (seal_weight rule.sealed ≡ 32768)). let w = z.1 in absurd (omega arith)) (weight_is rule.sealed)
 
 pub looks : (room slots id : ℕ) (me : M) → me.0.room ≡ room → Allows (Staged room) slots id me 0 (λ n. n) (looked (step slots 0 0 0 none) me)
-looks room slots id me same_room s rule _ at _ = let w : View = saw (tail s) me.0 in let f = rule.fits.0 in let o = tail_offset room s rule in let k = (rule.known id me.0 at).seen in
+looks room slots id me same_room s rule _ at _ = let w : StageView = saw (tail s) me.0 in let f = rule.fits.0 in let o = tail_offset room s rule in let k = (rule.known id me.0 at).seen in
     (w, keeps, tt, loads room s 0 id w (quiet room s rule id me.0 w at refl (refl, refl, refl, refl, refl) (refl, refl, refl) (sees room s rule id me.0 at) (honest_back room s rule id me.0 w at refl refl)) me, (refl, refl, omega arith, k))
 
 pub head_or : (r : Reservation) (rest : List Reservation) (q : Reservation) (i : ℕ) → get_elem? (r ∷ rest) i ≡ some q → (r ≡ q) ⊎ ((k : ℕ) × (get_elem? rest k ≡ some q))
@@ -232,16 +232,16 @@ head_or r rest q zero e = inl (some-injective r q e)
 head_or r rest q (suc k) e = inr (k, e)
 
 -- a new reservation r from the tail on, which is not sealed
-grows : (room : ℕ) (s : St) → (rule : Staged room s) → (id n : ℕ) (v : View) (r : Reservation) → get_elem? s.views id ≡ some v → rule.sealed ≡ false → r.round ≡ rule.round → r.place ≡ rule.offset → length r.words ≡ n → 0 < n
+grows : (room : ℕ) (s : St) → (rule : Staged room s) → (id n : ℕ) (v : StageView) (r : Reservation) → get_elem? s.views id ≡ some v → rule.sealed ≡ false → r.round ≡ rule.round → r.place ≡ rule.offset → length r.words ≡ n → 0 < n
     → rule.offset + n ≤ room → ((i : ℕ) → i < n → get_or r.words i 0 ≡ 0) → r.closed ≡ false
     → Staged room record { words = set s.words 0 (tail s + n); homes = s.homes; views = set s.views id (record v { mine = r ∷ v.mine }) }
-grows room s rule id n v r at unsealed of_round begins long some_place fit zeros is_open = let a : ℕ = rule.offset in let m : ℕ = rule.round in let x : ℕ = tail s + n in let w : View = record v { mine = r ∷ v.mine } in let ws : List ℕ = set s.words 0 x in let wide = rule.wide in
+grows room s rule id n v r at unsealed of_round begins long some_place fit zeros is_open = let a : ℕ = rule.offset in let m : ℕ = rule.round in let x : ℕ = tail s + n in let w : StageView = record v { mine = r ∷ v.mine } in let ws : List ℕ = set s.words 0 x in let wide = rule.wide in
     let top : get_or ws 0 0 ≡ x = get_or-set_same s.words 0 x 0 (omega arith) in let t0 = rule.tail_is in
     let still : SamePlaces s.words ws = λ j l. get_or-set_other s.words 0 j x 0 (λ e. omega arith) in
     let same_end : get_or ws 1 0 ≡ get_or s.words 1 0 = get_or-set_other s.words 0 1 x 0 (λ e. omega arith) in
     let old_or_new : (q : Reservation) → Has (set s.views id w) q → (r ≡ q) ⊎ Has s.views q = λ q h. ⊎_elim
     (λ (t : (i : ℕ) × (get_elem? w.mine i ≡ some q)). ⊎_elim (λ (e : r ≡ q). inl e) (λ (k : (k : ℕ) × (get_elem? v.mine k ≡ some q)). inr (id, v, k.0, at, k.1)) (head_or r v.mine q t.0 t.1))
-    (λ (t : (j : ℕ) × (u : View) × (i : ℕ) × (j ≢ id) × (get_elem? s.views j ≡ some u) × (get_elem? u.mine i ≡ some q)). inr (t.0, t.1, t.2, t.4, t.5)) (has_set s.views id w q h) in
+    (λ (t : (j : ℕ) × (u : StageView) × (i : ℕ) × (j ≢ id) × (get_elem? s.views j ≡ some u) × (get_elem? u.mine i ≡ some q)). inr (t.0, t.1, t.2, t.4, t.5)) (has_set s.views id w q h) in
     let k = rule.known id v at in
     rebuilt room s rule id (a + n) v w ws at (length-set s.words 0 x) (omega arith) (omega arith) fit
     (λ p. let b = below_step p a n in let d = lies_here m p r of_round in let c : within p r.place (length r.words) ≡ within p a n = (λ i. within p (begins i) (long i)) in omega arith)
@@ -281,19 +281,19 @@ grows room s rule id n v r at unsealed of_round begins long some_place fit zeros
       λ q h shut. ⊎_elim (λ (z : r ≡ q). absurd (true≢false (sym shut ∙ (ap (λ (z : Reservation). z.closed) (sym z) ∙ is_open)))) (λ (o : Has s.views q). let y = (rule.honest g.0 g.1).1 q o shut in omega arith) (old_or_new q h),
     ))
 
-pub at_here : (vs : List View) (id : ℕ) (v w : View) → get_elem? vs id ≡ some v → get_elem? (set vs id w) id ≡ some w
+pub at_here : (vs : List StageView) (id : ℕ) (v w : StageView) → get_elem? vs id ≡ some v → get_elem? (set vs id w) id ≡ some w
 at_here [] id v w e = absurd (some-ne-none v (sym e))
 at_here (x ∷ xs) zero v w e = refl
 at_here (x ∷ xs) (suc id) v w e = at_here xs id v w e
 
 -- the rule holds after a step, and the seat has its new view
-pub held : (room : ℕ) (s : St) (ws : List ℕ) (id : ℕ) (v w : View) → get_elem? s.views id ≡ some v → w.room ≡ room → Staged room record { words = ws; homes = s.homes; views = set s.views id w } → Holds w
+pub held : (room : ℕ) (s : St) (ws : List ℕ) (id : ℕ) (v w : StageView) → get_elem? s.views id ≡ some v → w.room ≡ room → Staged room record { words = ws; homes = s.homes; views = set s.views id w } → Holds w
 held room s ws id v w at same kept = (record { words = ws; homes = s.homes; views = set s.views id w }, subst (λ (z : ℕ). Staged z record { words = ws; homes = s.homes; views = set s.views id w }) (sym same) kept, (id, at_here s.views id v w at))
 
 pub exchanges : (room slots id : ℕ) (me : M) (old new : ℕ) → old < new → offset_of old + (new - old) ≤ room → seal_of old ≡ 0 → me.0.room ≡ room
     → Allows (Staged room) slots id me 0 (λ n. either (eqb n old) new n) (is.exchanged (step slots 0 old new none) me)
 exchanges room slots id me old new more fit unsealed same_room s rule _ at _ = let x : ℕ = tail s in let f = rule.fits.0 in let o = tail_offset room s rule in let seen = (rule.known id me.0 at).seen in dite (ℕ_discrete x old)
-    (λ hit. let n : ℕ = new - old in let zeros : List ℕ = replicate n 0 in let w : View = reserved old n me.0 in let up : x + n ≡ new = omega arith in
+    (λ hit. let n : ℕ = new - old in let zeros : List ℕ = replicate n 0 in let w : StageView = reserved old n me.0 in let up : x + n ≡ new = omega arith in
     let here : offset_of old ≡ rule.offset = ap offset_of (sym hit) ∙ o in
     let kept : Staged room (stepped s 0 (either (eqb x old) new x) id me.1 w keeps) = subst (λ b. Staged room (stepped s 0 (either b new x) id me.1 w keeps)) (sym (eq-eqb x old hit))
     (subst (λ (z : ℕ). Staged room record { words = set s.words 0 z; homes = s.homes; views = set s.views id w }) up
@@ -313,7 +313,7 @@ exchanges room slots id me old new more fit unsealed same_room s rule _ at _ = l
         λ not. absurd (not hit),
       ),
     ))
-    (λ miss. let w : View = saw x me.0 in
+    (λ miss. let w : StageView = saw x me.0 in
     let kept : Staged room (stepped s 0 (either (eqb x old) new x) id me.1 w keeps) = subst (λ b. Staged room (stepped s 0 (either b new x) id me.1 w keeps)) (sym (ne_eqb x old miss)) (loads room s 0 id w (quiet room s rule id me.0 w at refl (refl, refl, refl, refl, refl) (refl, refl, refl) (sees room s rule id me.0 at) (honest_back room s rule id me.0 w at refl refl)) me) in
     (w, keeps, tt, kept, (refl, held room s (set s.words 0 (either (eqb x old) new x)) id me.0 w at same_room kept, (λ hit. absurd (miss hit)), λ _. (refl, omega arith, seen))))
 
@@ -322,12 +322,12 @@ at_below [] j x e = absurd (some-ne-none x (sym e))
 at_below (y ∷ ys) zero x e = omega arith
 at_below (y ∷ ys) (suc j) x e = let r = at_below ys j x e in omega arith
 
-first_of : (vs : List View) (id : ℕ) (v : View) → get_elem? vs id ≡ some v → (f : View) × (get_elem? vs 0 ≡ some f)
+first_of : (vs : List StageView) (id : ℕ) (v : StageView) → get_elem? vs id ≡ some v → (f : StageView) × (get_elem? vs 0 ≡ some f)
 first_of [] id v e = absurd (some-ne-none v (sym e))
 first_of (x ∷ xs) id v e = (x, refl)
 
 -- r, the newest reservation of the seat id, which is open, becomes q as one of its words is stored
-module _ (room : ℕ) (s : St) (rule : Staged room s) (id i x : ℕ) (v w : View) (r q : Reservation) (rest : List Reservation) (at : get_elem? s.views id ≡ some v) (own : v.mine ≡ r ∷ rest)
+module _ (room : ℕ) (s : St) (rule : Staged room s) (id i x : ℕ) (v w : StageView) (r q : Reservation) (rest : List Reservation) (at : get_elem? s.views id ≡ some v) (own : v.mine ≡ r ∷ rest)
     (own' : w.mine ≡ q ∷ rest) (is_open : r.closed ≡ false) (inside : i < length r.words) (there : q.place ≡ r.place) (again : q.round ≡ r.round) (words : q.words ≡ set r.words i x) where
   abbrev spot : ℕ
   spot = word_of room rule.round (r.place + i)
@@ -337,20 +337,20 @@ module _ (room : ℕ) (s : St) (rule : Staged room s) (id i x : ℕ) (v w : View
 
   -- a reservation beside that one
   abbrev Beside : Reservation → Type 0
-  Beside o = ((k : ℕ) × (get_elem? rest k ≡ some o)) ⊎ ((j : ℕ) × (u : View) × (k : ℕ) × (j ≢ id) × (get_elem? s.views j ≡ some u) × (get_elem? u.mine k ≡ some o))
+  Beside o = ((k : ℕ) × (get_elem? rest k ≡ some o)) ⊎ ((j : ℕ) × (u : StageView) × (k : ℕ) × (j ≢ id) × (get_elem? s.views j ≡ some u) × (get_elem? u.mine k ≡ some o))
 
   has_r : Has s.views r
   has_r = (id, v, zero, at, ap (λ (l : List Reservation). get_elem? l zero) own)
 
   -- the flusher has not taken it, so it is of this round
-  first_view : (f : View) × (get_elem? s.views 0 ≡ some f)
+  first_view : (f : StageView) × (get_elem? s.views 0 ≡ some f)
   first_view = first_of s.views id v at
 
   present : r.round ≡ rule.round
   present = let top = (rule.sound r has_r).of_round in dite (ℕ_discrete r.round rule.round) (λ e. e)
       (λ d. absurd (let less : r.round < rule.round = omega arith in true≢false (sym ((rule.took first_view.0 first_view.1).before r has_r less).0 ∙ is_open)))
 
-  behind : (f : View) → get_elem? s.views 0 ≡ some f → length f.taken ≤ r.place
+  behind : (f : StageView) → get_elem? s.views 0 ≡ some f → length f.taken ≤ r.place
   behind f e = ⊎_elim (λ (z : InLog f.taken r). absurd (true≢false (sym z.0 ∙ is_open))) (λ (z : length f.taken ≤ r.place). z) ((rule.took f e).present r has_r present)
 
   -- nothing is cleared where a reservation is open
@@ -366,12 +366,12 @@ module _ (room : ℕ) (s : St) (rule : Staged room s) (id i x : ℕ) (v w : View
 
   beside_has : (o : Reservation) → Beside o → Has s.views o
   beside_has o b = ⊎_elim (λ (t : (k : ℕ) × (get_elem? rest k ≡ some o)). (id, v, suc t.0, at, ap (λ (l : List Reservation). get_elem? l (suc t.0)) own ∙ t.1))
-      (λ (t : (j : ℕ) × (u : View) × (k : ℕ) × (j ≢ id) × (get_elem? s.views j ≡ some u) × (get_elem? u.mine k ≡ some o)). (t.0, t.1, t.2, t.4, t.5)) b
+      (λ (t : (j : ℕ) × (u : StageView) × (k : ℕ) × (j ≢ id) × (get_elem? s.views j ≡ some u) × (get_elem? u.mine k ≡ some o)). (t.0, t.1, t.2, t.4, t.5)) b
 
   beside_apart : (o : Reservation) → Beside o → 0 < lies rule.round (r.place + i) o → ⊥
   beside_apart o b l = let p : ℕ = r.place + i in let c = covers_it in let top = one_at_most room s rule p in let n : ℕ = rule.round in let mine : covered n p v.mine ≡ lies n p r + covered n p rest = ap (covered n p) own in ⊎_elim
       (λ (t : (k : ℕ) × (get_elem? rest k ≡ some o)). let a = covered_at n p rest t.0 o t.1 in let m = total_at (at_place n p) s.views id v at in let lo : 0 < lies n p o = l in absurd (omega arith))
-      (λ (t : (j : ℕ) × (u : View) × (k : ℕ) × (j ≢ id) × (get_elem? s.views j ≡ some u) × (get_elem? u.mine k ≡ some o)).
+      (λ (t : (j : ℕ) × (u : StageView) × (k : ℕ) × (j ≢ id) × (get_elem? s.views j ≡ some u) × (get_elem? u.mine k ≡ some o)).
       let a = covered_at n p t.1.mine t.2 o t.5 in let m = total_two (at_place n p) s.views t.0 id t.1 v t.4 at t.3 in let lo : 0 < lies n p o = l in absurd (omega arith)) b
 
   beside_sound : (o : Reservation) → Beside o → Sound room stored rule.round rule.cleared rule.ended_cleared o
@@ -387,9 +387,9 @@ module _ (room : ℕ) (s : St) (rule : Staged room s) (id i x : ℕ) (v w : View
   cases : (o : Reservation) → Has (set s.views id w) o → (q ≡ o) ⊎ Beside o
   cases o h = ⊎_elim (λ (t : (k : ℕ) × (get_elem? w.mine k ≡ some o)). ⊎_elim (λ (e : q ≡ o). inl e) (λ (k : (k : ℕ) × (get_elem? rest k ≡ some o)). inr (inl k))
       (head_or q rest o t.0 (subst (λ (l : List Reservation). get_elem? l t.0 ≡ some o) own' t.1)))
-      (λ (t : (j : ℕ) × (u : View) × (k : ℕ) × (j ≢ id) × (get_elem? s.views j ≡ some u) × (get_elem? u.mine k ≡ some o)). inr (inr t)) (has_set s.views id w o h)
+      (λ (t : (j : ℕ) × (u : StageView) × (k : ℕ) × (j ≢ id) × (get_elem? s.views j ≡ some u) × (get_elem? u.mine k ≡ some o)). inr (inr t)) (has_set s.views id w o h)
 
-  writes : SameLog v w → w.seen ≡ v.seen → w.durable ≡ v.durable → w.published ≡ v.published → w.flushes ≡ v.flushes → w.heard ≡ v.heard → w.receipts ≡ v.receipts → (q.closed ≡ true → IsOneRecord q.words) → (q.closed ≡ false → get_or q.words 0 0 ≡ 0) → SameEnded v w → w.loads ≡ v.loads → (q.closed ≡ true → (f : View) → get_elem? s.views 0 ≡ some f → (length f.loads ≤ q.after) × (q.after ≤ length f.loads))
+  writes : SameLog v w → w.seen ≡ v.seen → w.durable ≡ v.durable → w.published ≡ v.published → w.flushes ≡ v.flushes → w.heard ≡ v.heard → w.receipts ≡ v.receipts → (q.closed ≡ true → IsOneRecord q.words) → (q.closed ≡ false → get_or q.words 0 0 ≡ 0) → SameEnded v w → w.loads ≡ v.loads → (q.closed ≡ true → (f : StageView) → get_elem? s.views 0 ≡ some f → (length f.loads ≤ q.after) × (q.after ≤ length f.loads))
       → Staged room record { words = stored; homes = s.homes; views = set s.views id w }
   writes same_log b' c' d' e' h' r' shut still_open same_before same_loads late = let n : ℕ = rule.round in let wide = rule.wide in let f = rule.fits.0 in let b = before_tail in let k = rule.known id v at in let long : length q.words ≡ length r.words = ap (λ (l : List ℕ). length l) words ∙ length-set r.words i x in
       let top : get_or stored 0 0 ≡ tail s = get_or-set_other s.words spot 0 x 0 (λ e. omega arith) in let fits_row = row_fits room n in let clear = none_cleared in
@@ -447,7 +447,7 @@ split_newest (r ∷ rest) h = (rest, refl)
 
 pub puts : (room slots id : ℕ) (me : M) (i x word : ℕ) → (newest me.0.mine).closed ≡ false → 0 < i → i < length (newest me.0.mine).words → word ≡ word_of room (newest me.0.mine).round ((newest me.0.mine).place + i) → me.0.room ≡ room
     → Allows (Staged room) slots id me word (λ _. x) (λ _. put (step slots word x 0 none) me x)
-puts room slots id me i x word is_open behind inside where_it_is same_room s rule _ at _ = let r : Reservation = newest me.0.mine in let w : View = filled i x me.0 in let q : Reservation = record r { words = set r.words i x } in
+puts room slots id me i x word is_open behind inside where_it_is same_room s rule _ at _ = let r : Reservation = newest me.0.mine in let w : StageView = filled i x me.0 in let q : Reservation = record r { words = set r.words i x } in
     let cut = split_newest me.0.mine is_open in let same_row : row me.0.room r.round ≡ row room r.round = ap (λ (z : ℕ). row z r.round) same_room in let back : i ≡ word - word_of me.0.room r.round r.place = omega arith in
     let s_r = rule.sound r (id, me.0, zero, at, ap (λ (l : List Reservation). get_elem? l zero) cut.1) in
     let here : r.round ≡ rule.round = present room s rule id i x me.0 w r q cut.0 at cut.1 (ap (is.with_newest (λ r. record r { words = set r.words i x })) cut.1) is_open inside refl refl refl in
@@ -463,7 +463,7 @@ puts room slots id me i x word is_open behind inside where_it_is same_room s rul
 
 pub shuts : (room slots id : ℕ) (me : M) (header word : ℕ) → (newest me.0.mine).closed ≡ false → IsOneRecord (set (newest me.0.mine).words 0 header) → word ≡ word_of room (newest me.0.mine).round (newest me.0.mine).place
     → Allows (Staged room) slots id me word (λ _. header) (λ _. closed (step slots word header 0 none) me header)
-shuts room slots id me header word is_open whole where_it_is s rule _ at _ = let r : Reservation = newest me.0.mine in let first = first_of s.views id me.0 at in let n : ℕ = length first.0.loads in let w : View = shut_with header n me.0 in let q : Reservation = record r { words = set r.words 0 header; closed = true; after = n } in
+shuts room slots id me header word is_open whole where_it_is s rule _ at _ = let r : Reservation = newest me.0.mine in let first = first_of s.views id me.0 at in let n : ℕ = length first.0.loads in let w : StageView = shut_with header n me.0 in let q : Reservation = record r { words = set r.words 0 header; closed = true; after = n } in
     let some_words : 0 < length r.words = (let l = length-set r.words 0 header in let f = some_record (set r.words 0 header) whole in omega arith) in let cut = split_newest me.0.mine is_open in let here : r.round ≡ rule.round = present room s rule id 0 header me.0 w r q cut.0 at cut.1 (ap (is.with_newest (λ r. record r { words = set r.words 0 header; closed = true; after = n })) cut.1) is_open some_words refl refl refl in
     let to_row : row room r.round ≡ row room rule.round = ap (row room) here in let to : word_of room rule.round (r.place + 0) ≡ word = omega arith in (
       w,
@@ -471,6 +471,6 @@ shuts room slots id me header word is_open whole where_it_is s rule _ at _ = let
       tt,
       subst (λ (z : ℕ). Staged room record { words = set s.words z header; homes = s.homes; views = set s.views id w }) to
           (writes room s rule id 0 header me.0 w r q cut.0 at cut.1 (ap (is.with_newest (λ r. record r { words = set r.words 0 header; closed = true; after = n })) cut.1) is_open some_words refl refl refl (refl, refl, refl, refl, refl) refl refl refl refl refl refl
-          (λ _. whole) (λ f. absurd (true≢false f)) (refl, refl, refl) refl (λ _ f e. let same : first.0 ≡ f = some-injective first.0 f (sym first.1 ∙ e) in (let k : length first.0.loads ≡ length f.loads = ap (λ (z : View). length z.loads) same in (omega arith, omega arith)))),
+          (λ _. whole) (λ f. absurd (true≢false f)) (refl, refl, refl) refl (λ _ f e. let same : first.0 ≡ f = some-injective first.0 f (sym first.1 ∙ e) in (let k : length first.0.loads ≡ length f.loads = ap (λ (z : StageView). length z.loads) same in (omega arith, omega arith)))),
       (refl, (n, refl)),
     )

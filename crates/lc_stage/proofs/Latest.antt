@@ -3,7 +3,7 @@ use Rattle.std.proofs.Common.{◌≡◌, ◌⊎◌, zero, suc, ◌+◌, ◌*◌,
 use mathlib.Core.Logic.{dite}
 use native.Mathlib.Decide.{dec_le}
 use Rattle.std.proofs.lemmas.Bool.{cases_Bool as closed_or, lt-ltb as is_less, le-ltb as not_less}
-use Rattle.lc_stage.specs.declared.view.Reservation.{Reservation}
+use Rattle.lc_stage.specs.declared.stage_view.Reservation.{Reservation}
 use Rattle.lc_stage.specs.declared.receipt.Receipt.{Receipt}
 use Rattle.lc_stage.specs.Staging.{Owns, rank, later, latest, reservation}
 use Rattle.lc_stage.specs.Receipts.{rank_in, IsReceiptOf}

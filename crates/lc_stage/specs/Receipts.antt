@@ -1,7 +1,7 @@
 -- What a receipt says of a reservation.
 use Rattle.std.specs.Prelude.{◌≡◌, ℕ, ◌+◌, ◌*◌, cond, eqb, length}
 use Rattle.lc_stage.specs.declared.receipt.Receipt.{Receipt}
-use Rattle.lc_stage.specs.declared.view.Reservation.{Reservation}
+use Rattle.lc_stage.specs.declared.stage_view.Reservation.{Reservation}
 
 -- the receipt is of this reservation
 abbrev pub IsReceiptOf : Reservation → Receipt → Type 0

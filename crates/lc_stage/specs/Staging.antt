@@ -7,9 +7,9 @@ use lib.ListN.{get_elem?}
 use Rattle.atomic_table.specs.Table.{State, Me, Step}
 use Rattle.lc_record.specs.Record.{IsRecord}
 use Rattle.lc_record.specs.declared.record.Record.{Record}
-use Rattle.lc_stage.specs.declared.view.Reservation.{Reservation}
-use Rattle.lc_stage.specs.declared.view.Load.{Load}
-use Rattle.lc_stage.specs.declared.view.View.{View}
+use Rattle.lc_stage.specs.declared.stage_view.Reservation.{Reservation}
+use Rattle.lc_stage.specs.declared.stage_view.Load.{Load}
+use Rattle.lc_stage.specs.declared.stage_view.StageView.{StageView}
 
 -- how many words stand between the durable end and a round's row
 unfoldable pub row : ℕ → ℕ → ℕ
@@ -49,7 +49,7 @@ abbrev pub covered : ℕ → ℕ → List Reservation → ℕ
 covered round p [] = 0
 covered round p (r ∷ rs) = lies round p r + covered round p rs
 
-abbrev pub total : (View → ℕ) → List View → ℕ
+abbrev pub total : (StageView → ℕ) → List StageView → ℕ
 total f [] = 0
 total f (v ∷ vs) = f v + total f vs
 
@@ -77,8 +77,8 @@ abbrev pub AreRecords : List ℕ → Type 0
 AreRecords ws = (rs : List (List ℕ)) × All IsOneRecord rs × (ws ≡ concat rs)
 
 -- the reservation stands in a seat's view
-abbrev pub Has : List View → Reservation → Type 0
-Has views r = (id : ℕ) × (v : View) × (i : ℕ) × (get_elem? views id ≡ some v) × (get_elem? v.mine i ≡ some r)
+abbrev pub Has : List StageView → Reservation → Type 0
+Has views r = (id : ℕ) × (v : StageView) × (i : ℕ) × (get_elem? views id ≡ some v) × (get_elem? v.mine i ≡ some r)
 
 -- the reservation is one of these
 abbrev pub Owns : List Reservation → Reservation → Type 0
@@ -109,7 +109,7 @@ pub record Sound (room : ℕ) (words : List ℕ) (round cleared ended_cleared : 
 
 -- what was taken is the words of the places below some k, all of closed reservations, whole, as their seats filled them, and the durable end is k at most.
 -- Every reservation of an earlier round is in what was taken in that round
-pub record Taken (room : ℕ) (words : List ℕ) (views : List View) (round offset : ℕ) (sealed : Bool) (cleared : ℕ) (f : View) : Type 0 where
+pub record TakenInRound (room : ℕ) (words : List ℕ) (views : List StageView) (round offset : ℕ) (sealed : Bool) (cleared : ℕ) (f : StageView) : Type 0 where
   pub rounds : length f.past ≡ round
   pub reach : length f.taken ≤ offset
   pub stands : (p : ℕ) → cleared ≤ p → p < length f.taken → slice_index words (word_of room round p) ≡ slice_index f.taken p
@@ -124,7 +124,7 @@ pub record Taken (room : ℕ) (words : List ℕ) (views : List View) (round offs
 
 -- the row of the round before, which ended at an offset: what was taken in it is all that was reserved, and durable.
 -- Its places are cleared from the first on, and those after the offset are 0
-pub record Ended (room : ℕ) (words : List ℕ) (round ended ended_cleared : ℕ) (f : View) : Type 0 where
+pub record EndedRow (room : ℕ) (words : List ℕ) (round ended ended_cleared : ℕ) (f : StageView) : Type 0 where
   pub inside : (ended ≤ room) × (ended_cleared ≤ ended)
   pub empty : (p : ℕ) → ended ≤ p → p < room → slice_index words (word_of room (1 + round) p) ≡ 0
   pub zeros : (p : ℕ) → p < ended_cleared → slice_index words (word_of room (1 + round) p) ≡ 0
@@ -134,7 +134,7 @@ pub record Ended (room : ℕ) (words : List ℕ) (round ended ended_cleared : �
   pub all_durable : (n : ℕ) → round ≡ 1 + n → n * 65536 + ended ≤ slice_index words 1
 
 -- what is true of each seat's view. The first seat is the flusher's
-pub record Known (words : List ℕ) (id : ℕ) (v : View) : Type 0 where
+pub record Known (words : List ℕ) (id : ℕ) (v : StageView) : Type 0 where
   pub seen : v.seen ≤ slice_index words 0
   pub durable : v.durable ≤ slice_index words 1
   pub published : v.published ≤ slice_index words 1
@@ -145,12 +145,12 @@ pub record Known (words : List ℕ) (id : ℕ) (v : View) : Type 0 where
   pub first : id ≡ 0 → v.flushes ≡ true
 
 -- where the flusher has read a place as 0, no reservation of this round that begins there was closed by then
-abbrev pub Honest : List View → ℕ → View → Type 0
+abbrev pub Honest : List StageView → ℕ → StageView → Type 0
 Honest views round f = ((j p : ℕ) → get_elem? f.loads j ≡ some (record { place = p; word = 0 }) → (r : Reservation) → Has views r → r.round ≡ round → r.place ≡ p → r.closed ≡ true → j < r.after)
     × ((r : Reservation) → Has views r → r.closed ≡ true → r.after ≤ length f.loads)
 
 -- the rule of a stage with so many places in each row. The flusher's view is that of the first seat
-pub record Staged (room : ℕ) (s : State (Unit {0}) View) : Type 0 where
+pub record Staged (room : ℕ) (s : State (Unit {0}) StageView) : Type 0 where
   pub round : ℕ
   pub offset : ℕ
   pub sealed : Bool
@@ -167,18 +167,18 @@ pub record Staged (room : ℕ) (s : State (Unit {0}) View) : Type 0 where
   pub sound : (r : Reservation) → Has s.views r → Sound room s.words round cleared ended_cleared r
   pub empty : (p : ℕ) → offset ≤ p → p < room → slice_index s.words (word_of room round p) ≡ 0
   pub zeros : (p : ℕ) → p < cleared → slice_index s.words (word_of room round p) ≡ 0
-  pub known : (id : ℕ) (v : View) → get_elem? s.views id ≡ some v → Known s.words id v
-  pub took : (f : View) → get_elem? s.views 0 ≡ some f → Taken room s.words s.views round offset sealed cleared f
-  pub before : (f : View) → get_elem? s.views 0 ≡ some f → Ended room s.words round ended ended_cleared f
-  pub honest : (f : View) → get_elem? s.views 0 ≡ some f → Honest s.views round f
+  pub known : (id : ℕ) (v : StageView) → get_elem? s.views id ≡ some v → Known s.words id v
+  pub took : (f : StageView) → get_elem? s.views 0 ≡ some f → TakenInRound room s.words s.views round offset sealed cleared f
+  pub before : (f : StageView) → get_elem? s.views 0 ≡ some f → EndedRow room s.words round ended ended_cleared f
+  pub honest : (f : StageView) → get_elem? s.views 0 ≡ some f → Honest s.views round f
 
 abbrev pub reservation : ℕ → ℕ → List ℕ → Bool → Reservation
 reservation round place words closed = record { round = round; place = place; words = words; closed = closed; after = 0 }
 
-abbrev pub newcomer : ℕ → View
+abbrev pub newcomer : ℕ → StageView
 newcomer room = record { room = room; seen = 0; durable = 0; mine = []; receipts = []; flushes = false; past = []; taken = []; cleared = 0; sealed = false; sealed_at = 0; ended = 0; ended_cleared = 0; loads = []; published = 0; heard = 0 }
 
-abbrev pub flusher : ℕ → View
+abbrev pub flusher : ℕ → StageView
 flusher room = record (newcomer room) { flushes = true }
 
 -- a seat's newest reservation, or one that is closed where it has none
@@ -204,50 +204,50 @@ latest [] = reservation 0 0 [] true
 latest (r ∷ rs) = cond r.closed (later r (latest rs)) (latest rs)
 
 -- the durable end x has reached the end of the last closed record
-abbrev pub HasReached : ℕ → View → Type 0
+abbrev pub HasReached : ℕ → StageView → Type 0
 HasReached x v = (0 < length (latest v.mine).words) × (durable_at (latest v.mine) ≤ x)
 
 -- the view with a receipt of its last closed record
-abbrev pub with_receipt : View → View
+abbrev pub with_receipt : StageView → StageView
 with_receipt v = record v { receipts = latest v.mine ∷ v.receipts }
 
 -- the view with the reservations and receipts of another
-abbrev pub joining : View → View → View
+abbrev pub joining : StageView → StageView → StageView
 joining v w = record v { mine = v.mine ++ w.mine; receipts = v.receipts ++ w.receipts }
 
 -- the view with the tail seen
-abbrev pub saw : ℕ → View → View
+abbrev pub saw : ℕ → StageView → StageView
 saw n v = record v { seen = n }
 
 -- the view with one more reservation, of n places from the tail `at` on
-abbrev pub reserved : ℕ → ℕ → View → View
+abbrev pub reserved : ℕ → ℕ → StageView → StageView
 reserved at n v = record v { mine = reservation (round_of at) (offset_of at) (replicate n 0) false ∷ v.mine }
 
 -- the view with the word i of its newest reservation filled
-abbrev pub filled : ℕ → ℕ → View → View
+abbrev pub filled : ℕ → ℕ → StageView → StageView
 filled i x v = record v { mine = with_newest (λ r. record r { words = slice_set r.words i x }) v.mine }
 
 -- the view with its newest reservation closed by a header
-abbrev pub shut_with : ℕ → ℕ → View → View
+abbrev pub shut_with : ℕ → ℕ → StageView → StageView
 shut_with header after v = record v { mine = with_newest (λ r. record r { words = slice_set r.words 0 header; closed = true; after = after }) v.mine }
 
 abbrev pub load : ℕ → ℕ → Load
 load p x = record { place = p; word = x }
 
 -- the view with one more load of a place
-abbrev pub loaded : ℕ → ℕ → View → View
+abbrev pub loaded : ℕ → ℕ → StageView → StageView
 loaded p x v = record v { loads = v.loads ++ load p x ∷ [] }
 
 -- the view with more words taken
-abbrev pub taking : List ℕ → View → View
+abbrev pub taking : List ℕ → StageView → StageView
 taking ws v = record v { taken = v.taken ++ ws }
 
 -- there is a state of the table in which the rule holds and a seat has this view
-abbrev pub Holds : View → Type 0
-Holds v = (s : State (Unit {0}) View) × Staged v.room s × ((id : ℕ) × (get_elem? s.views id ≡ some v))
+abbrev pub Holds : StageView → Type 0
+Holds v = (s : State (Unit {0}) StageView) × Staged v.room s × ((id : ℕ) × (get_elem? s.views id ≡ some v))
 
 abbrev Sat : Type 0
-Sat = Me (Unit {0}) View
+Sat = Me (Unit {0}) StageView
 
 abbrev At : Type 0
 At = Step (Unit {0})
@@ -269,7 +269,7 @@ abbrev pub closed : At → Sat → ℕ → Sat → Type 0
 closed st m x m' = (m'.1 ≡ m.1) × ((after : ℕ) × (m'.0 ≡ shut_with st.first after m.0))
 
 -- the place of a word in the row of the flusher's round
-abbrev pub place_in : View → ℕ → ℕ
+abbrev pub place_in : StageView → ℕ → ℕ
 place_in v word = word - word_of v.room (length v.past) 0
 
 -- the load of the place after what was taken: 0 tells nothing, and another word is the header of a closed record, which
@@ -283,23 +283,23 @@ abbrev pub copied : At → Sat → ℕ → Sat → Type 0
 copied st m x m' = (m'.1 ≡ m.1) × (m'.0 ≡ loaded (place_in m.0 st.word) x m.0) × (x ≡ slice_index m.0.taken (place_in m.0 st.word))
 
 -- the end of what the flusher took, under its round
-abbrev pub end_of : View → ℕ
+abbrev pub end_of : StageView → ℕ
 end_of v = length v.past * 65536 + length v.taken
 
 -- the durable end that the flusher stored last has become the end of what it took, and has not fallen
-abbrev pub RaisesDurable : View → View → Type 0
+abbrev pub RaisesDurable : StageView → StageView → Type 0
 RaisesDurable v w = (w.published ≡ end_of w) × (v.published ≤ w.published)
 
 abbrev pub published : At → Sat → ℕ → Sat → Type 0
 published st m x m' = (m'.1 ≡ m.1) × (m'.0 ≡ record m.0 { published = st.first }) × RaisesDurable m.0 m'.0
 
 -- what a reservation's round has taken holds its words, or its places are still to be taken; a closed one's words are a record
-abbrev pub IsStaged : View → Reservation → Type 0
+abbrev pub IsStaged : StageView → Reservation → Type 0
 IsStaged f r = (r.round ≤ length f.past) × (r.round ≡ length f.past → InLog f.taken r ⊎ (length f.taken ≤ r.place))
     × (r.round < length f.past → InLog (slice_index_or f.past r.round []) r) × (r.closed ≡ true → IsOneRecord r.words)
 
 -- the words of the committer's reservations were taken as it filled them, as far as places were taken. What it saw as durable is published, and so is each record of which it has a receipt, which is a closed reservation of its own
-pub record Agree (f c : View) : Type 0 where
+pub record Agree (f c : StageView) : Type 0 where
   pub published : c.durable ≤ f.published
   pub taken : f.published ≤ end_of f
   pub staged : (r : Reservation) → Owns c.mine r → IsStaged f r
@@ -310,37 +310,37 @@ abbrev pub agreed : At → Sat → ℕ → Sat → Type 0
 agreed st m x m' = (m'.1 ≡ m.1) × (m'.0 ≡ m.0) × Agree m.0 m.0
 
 -- a flusher's view with that of a committer beside it, and the two apart again
-abbrev pub with_commit : View → View → View
+abbrev pub with_commit : StageView → StageView → StageView
 with_commit f c = record f { seen = c.seen; durable = c.durable; mine = c.mine; receipts = c.receipts }
 
-abbrev pub no_commit : View → View
+abbrev pub no_commit : StageView → StageView
 no_commit v = record v { seen = 0; durable = 0; mine = []; receipts = [] }
 
-abbrev pub only_commit : View → View
+abbrev pub only_commit : StageView → StageView
 only_commit v = record (newcomer v.room) { seen = v.seen; durable = v.durable; mine = v.mine; receipts = v.receipts }
 
 -- the view with a tail of which it is told
-abbrev pub hears : ℕ → View → View
+abbrev pub hears : ℕ → StageView → StageView
 hears tail v = record v { heard = tail }
 
 -- a view that says no more than which tail another has seen
-abbrev pub note_of : View → View
+abbrev pub note_of : StageView → StageView
 note_of v = record (newcomer v.room) { seen = v.seen }
 
 -- the flusher's view once it has sealed the round at an offset
-abbrev pub sealing : ℕ → View → View
+abbrev pub sealing : ℕ → StageView → StageView
 sealing offset v = record v { sealed = true; sealed_at = offset }
 
 -- one place more of the flusher's round is cleared
-abbrev pub clearing : View → View
+abbrev pub clearing : StageView → StageView
 clearing v = record v { cleared = 1 + v.cleared }
 
 -- one place more of the round before is cleared
-abbrev pub clearing_ended : View → View
+abbrev pub clearing_ended : StageView → StageView
 clearing_ended v = record v { ended_cleared = 1 + v.ended_cleared }
 
 -- the next round: what was taken stays under the ended one
-abbrev pub reopening : View → View
+abbrev pub reopening : StageView → StageView
 reopening v = record v { past = v.past ++ v.taken ∷ []; taken = []; sealed = false; sealed_at = 0; cleared = 0; ended = v.sealed_at; ended_cleared = v.cleared }
 
 abbrev pub seals : At → Sat → ℕ → Sat → Type 0
@@ -355,7 +355,7 @@ clears_ended st m x m' = (m'.1 ≡ m.1) × (m'.0 ≡ clearing_ended m.0)
 abbrev pub reopens : At → Sat → ℕ → Sat → Type 0
 reopens st m x m' = (m'.1 ≡ m.1) × (m'.0 ≡ reopening m.0)
 
-abbrev pub learns_durable : ℕ → View → View
+abbrev pub learns_durable : ℕ → StageView → StageView
 learns_durable x v = record v { durable = x }
 
 -- a load of the durable end: it gives a receipt exactly where it has reached the end of the last closed record

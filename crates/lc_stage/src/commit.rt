@@ -7,7 +7,7 @@ ghost use Rattle.lc_stage.specs.Seats.{commit_view, IsSeatOf, IsRefused, IsIdle}
 ghost use Rattle.lc_stage.specs.declared.fault.StageFault.TheVariants.{Full, Sealed};
 
 use crate::layout::{DURABLE, OFFSETS, ROUNDS, TAIL};
-use crate::plays::{Exchange, Learn, Look, Put, Shut};
+use crate::plays::{Exchange, FillWord, Learn, LoadTail, Shut};
 use crate::seats::CommitSeat;
 use crate::{Receipt, Stage, StageFault};
 
@@ -28,7 +28,7 @@ impl Stage {
         ensures seen { commit_view seat.new ≡ saw result (commit_view seat.old) }
         ensures grows { (commit_view seat.old).seen ≤ result }
     {
-        self.table.shared.load::<Look>(&mut seat.seat, TAIL)
+        self.table.shared.load::<LoadTail>(&mut seat.seat, TAIL)
     }
 
     /// Reserves n words, at least one, from the tail `at` on, which this seat saw last, and answers their place.
@@ -79,7 +79,9 @@ impl Stage {
         ensures filled { commit_view seat.new ≡ filled i word (commit_view seat.old) }
     {
         let at = self.word_of(seat.round, seat.place + i);
-        self.table.shared.store::<Put>(&mut seat.seat, at, word);
+        self.table
+            .shared
+            .store::<FillWord>(&mut seat.seat, at, word);
     }
 
     /// Stores the header, which closes the open reservation. With this header in front its words are one record. One

@@ -13,11 +13,11 @@ mod rounds;
 mod seating;
 mod seats;
 mod stage;
-mod view;
+mod stage_view;
 
 pub use fault::StageFault;
 pub use laws::{flushed_holds_taken, reservations_are_apart, taken_is_a_group};
 pub use receipt::Receipt;
 pub use seats::{CommitSeat, FlushSeat};
 pub use stage::Stage;
-pub use view::{Load, Reservation, Staging, View};
+pub use stage_view::{Load, Reservation, StageView, Staging};

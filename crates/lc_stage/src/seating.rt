@@ -5,7 +5,7 @@ ghost use Rattle.lc_stage.specs.Staging.{flusher, newcomer, joining, latest, lea
 ghost use Rattle.lc_stage.specs.Seats.{commit_view, flush_view, IsSeatOf, IsFlusherOf, IsIdle};
 
 use crate::layout::DURABLE;
-use crate::plays::{Agreed, Cut, Glue, LearnStored, Meeting};
+use crate::plays::{Agreed, Glue, LearnStored, Meeting, SplitSeat};
 use crate::receipt::NONE;
 use crate::seats::{CommitSeat, FlushSeat};
 use crate::{Receipt, Stage};
@@ -23,7 +23,7 @@ impl Stage {
     {
         let zeros = vec![in alloc; 0; 2 * words as usize + 2]?;
         let (table, mut seat) = Table::of_words(alloc, zeros.as_slice(), &(words as u64))?;
-        let other = table.shared.split_seat::<Cut>(&mut seat);
+        let other = table.shared.split_seat::<SplitSeat>(&mut seat);
         let stage = Stage { table, room: words };
         Ok((
             stage,
@@ -59,7 +59,7 @@ impl Stage {
         ensures same { IsSeatOf self.now seat.new × (commit_view seat.new ≡ commit_view seat.old) }
         ensures new { IsSeatOf self.now result × (commit_view result ≡ newcomer self.now.room) }
     {
-        let other = self.table.shared.split_seat::<Cut>(&mut seat.seat);
+        let other = self.table.shared.split_seat::<SplitSeat>(&mut seat.seat);
         CommitSeat {
             seat: other,
             round: 0,

@@ -4,13 +4,13 @@ ghost use Rattle.lc_stage.specs.Receipts.{IsReceiptOf};
 ghost use Rattle.lc_stage.specs.Staging.{latest, newest, open_count, offset_of};
 
 use crate::receipt::Receipt;
-use crate::view::View;
+use crate::stage_view::StageView;
 use atomic_table::Seat;
 
 /// What a committer steps with. It has no more than one open reservation, its newest.
 #[derive(Drop)]
 pub struct CommitSeat {
-    pub(crate) seat: Seat<(), View>,
+    pub(crate) seat: Seat<(), StageView>,
     pub(crate) round: u64,
     pub(crate) place: u32,
     pub(crate) words: u32,
@@ -28,7 +28,7 @@ pub struct CommitSeat {
 /// What the flusher steps with.
 #[derive(Drop)]
 pub struct FlushSeat {
-    pub(crate) seat: Seat<(), View>,
+    pub(crate) seat: Seat<(), StageView>,
     pub(crate) round: u64,
     pub(crate) end: u32,
     pub(crate) cleared: u32,

@@ -10,7 +10,7 @@ use Rattle.lc_core.specs.Lives.{IsNewborn}
 use Rattle.lc_recover.specs.Fault.{refusal_to}
 use Rattle.lc_core.specs.declared.call_fault.CallFault.{CallFault}
 use Rattle.lc_core.specs.declared.call_fault.CallFault.TheVariants.{NoMemory, Refused}
-use Rattle.lc_core.specs.declared.phase.Phase.TheVariants.{Down}
+use Rattle.lc_core.specs.declared.world_phase.WorldPhase.TheVariants.{Down}
 use Rattle.lc_core.specs.declared.world.World.{World}
 use Rattle.lc_files.specs.declared.sizing.SizeFault.{SizeFault}
 use Rattle.lc_files.specs.declared.sizing.SizeFault.TheVariants.{Misfit as Misfits, Folder as SizeFolder}
@@ -18,8 +18,8 @@ use Rattle.lc_files.specs.declared.sizing.Unopened.{Unopened}
 use Rattle.lc_files.specs.declared.sizing.Unopened.TheVariants.{Folder as NoFolder, OtherSize}
 use Rattle.lc_look.specs.Recovers.{Explains}
 use Rattle.lc_look.specs.Refused.{IsFirstWrong}
-use Rattle.lc_store.specs.declared.open_fault.OpenFault.{OpenFault}
-use Rattle.lc_store.specs.declared.open_fault.OpenFault.TheVariants.{BadGeometry, BadThreads, Folder, NoStore, NotUp}
+use Rattle.lc_store.specs.declared.store_open_fault.StoreOpenFault.{StoreOpenFault}
+use Rattle.lc_store.specs.declared.store_open_fault.StoreOpenFault.TheVariants.{BadGeometry, BadThreads, Folder, NoStore, NotUp}
 
 -- a node has at least one thread, and at most 16
 abbrev pub IsNoThreadCount : ℕ → Type 0
@@ -34,12 +34,12 @@ abbrev pub of_recovery : RecoverFault → CallFault
 of_recovery fault = as_refused (refusal_to fault)
 
 -- a store that is not opened in its folder
-abbrev pub of_unopened : Unopened → OpenFault
+abbrev pub of_unopened : Unopened → StoreOpenFault
 of_unopened (NoFolder fault) = Folder fault
 of_unopened (OtherSize area) = BadGeometry area
 
 -- a folder that tells no size
-abbrev pub of_size : SizeFault → OpenFault
+abbrev pub of_size : SizeFault → StoreOpenFault
 of_size (Misfits misfit) = NoStore misfit
 of_size (SizeFolder fault) = Folder fault
 
@@ -51,7 +51,7 @@ module _ {D : Type 0} (a : Ghosts D) where
     pub comes : ComesUpBy a down result new
 
   -- it is up, with the content of a store that was read; or the areas are not those of the geometry; or its recovery has stopped
-  abbrev pub Opens : Geometry → List D → Result (World D a) OpenFault → Type 0
+  abbrev pub Opens : Geometry → List D → Result (World D a) StoreOpenFault → Type 0
   Opens g areas (Ok world) = ComesUpOn g areas (Ok tt) world × IsNewborn a world.phase
   Opens g areas (Err (BadGeometry area)) = IsFirstWrong a g areas area
   Opens g areas (Err (NotUp fault)) = (new : World D a) × ComesUpOn g areas (Err fault) new
@@ -60,7 +60,7 @@ module _ {D : Type 0} (a : Ghosts D) where
   Opens g areas (Err BadThreads) = ⊥
 
   -- why a recovery of these areas has stopped
-  abbrev pub RefusesAreas : Geometry → List D → OpenFault → Type 0
+  abbrev pub RefusesAreas : Geometry → List D → StoreOpenFault → Type 0
   RefusesAreas g areas (BadGeometry area) = IsFirstWrong a g areas area
   RefusesAreas g areas (NotUp fault) = (why : RecoverFault) × (fault ≡ of_recovery why) × Explains a g areas why
   RefusesAreas g areas (Folder fault) = ⊥

@@ -4,7 +4,7 @@ ghost use Rattle.lc_core.specs.Geometries.{phase_geometry};
 ghost use Rattle.lc_core.specs.Observed.{observed};
 ghost use Rattle.lc_store.specs.Opening.{Opens};
 
-use crate::OpenFault;
+use crate::StoreOpenFault;
 use lc_core::World;
 use lc_disk::Stoppable;
 use lc_record::Geometry;
@@ -16,7 +16,7 @@ pub(crate) fn up_on<D: Stoppable + Drop>(
     alloc: Global,
     geometry: Geometry,
     areas: Vec<D>,
-) -> Result<World<D>, OpenFault>
+) -> Result<World<D>, StoreOpenFault>
     ensures opens { Opens D.Area geometry areas.items result }
     ensures up { IfOk result (λ world. (observed D.Area world).up ≡ true) }
     ensures geometry { IfOk result (λ world. phase_geometry D.Area world.phase ≡ Some geometry) }
@@ -24,12 +24,12 @@ pub(crate) fn up_on<D: Stoppable + Drop>(
     let mut world = match World::new(geometry, areas) {
         Ok(world) => world,
         Err((_, RecoverFault::BadGeometry { area })) => {
-            return Err(OpenFault::BadGeometry { area });
+            return Err(StoreOpenFault::BadGeometry { area });
         }
         Err(_) => unreachable!(),
     };
     match world.recover(alloc) {
         Ok(()) => Ok(world),
-        Err(fault) => Err(OpenFault::NotUp(fault)),
+        Err(fault) => Err(StoreOpenFault::NotUp(fault)),
     }
 }

@@ -5,7 +5,7 @@ ghost use Rattle.lc_files.specs.SizeText.{IsSameSize};
 ghost use Rattle.lc_files.specs.Sizes.{IsSizeOf};
 ghost use Rattle.lc_store.specs.Opening.{IsNoThreadCount};
 
-use crate::OpenFault;
+use crate::StoreOpenFault;
 use lc_files::{SizeSource, size_found};
 use lc_record::Geometry;
 use std::alloc::Global;
@@ -18,14 +18,14 @@ pub(crate) fn found<F: SizeSource>(
     alloc: Global,
     folder: &F,
     threads: u16,
-) -> Result<Geometry, OpenFault>
+) -> Result<Geometry, StoreOpenFault>
     ensures threads { IfOk result (λ geometry. geometry.threads ≡ threads) }
     ensures size { IfOk result (λ geometry. F.honest folder.now ≡ true
         → (its : Sizes) × IsSizeOf (F.stated folder.now) (F.logs folder.now) (F.segments folder.now) its × IsSameSize its geometry) }
-    ensures bad_threads { (result ≡ Err OpenFault.BadThreads) ↔ IsNoThreadCount threads }
+    ensures bad_threads { (result ≡ Err StoreOpenFault.BadThreads) ↔ IsNoThreadCount threads }
 {
     if threads == 0 || MOST_THREADS < threads {
-        return Err(OpenFault::BadThreads);
+        return Err(StoreOpenFault::BadThreads);
     }
     let found = size_found(alloc, folder)?;
     Ok(Geometry {

@@ -3,12 +3,12 @@
 
 mod bringing_up;
 mod finding;
-mod open_fault;
 mod recovering;
 mod serving;
 mod store;
+mod store_open_fault;
 
-pub use open_fault::OpenFault;
 pub use recovering::recovered_on;
 pub use serving::{FolderServing, Serving};
 pub use store::{FolderStore, Store};
+pub use store_open_fault::StoreOpenFault;

@@ -5,7 +5,7 @@ ghost use Rattle.lc_recover.specs.Recovered.{AreFinished};
 ghost use Rattle.lc_look.specs.Recovers.{Recovers};
 ghost use Rattle.lc_store.specs.Opening.{RefusesAreas};
 
-use crate::OpenFault;
+use crate::StoreOpenFault;
 use lc_disk::Area;
 use lc_record::Geometry;
 use lc_recover::{Progress, RecoverFault, Recovered, Recovery};
@@ -22,7 +22,7 @@ pub fn recovered_on<D: Area + Drop>(
     alloc: Global,
     geometry: Geometry,
     areas: Vec<D>,
-) -> Result<Recovered<D>, OpenFault>
+) -> Result<Recovered<D>, StoreOpenFault>
     ensures geometry { IfOk result (λ store. store.geometry ≡ geometry) }
     ensures lengths { IfOk result (λ store. HaveLengths D.Area store.geometry store.areas) }
     ensures finished { IfOk result (AreFinished D.Area) }
@@ -32,7 +32,7 @@ pub fn recovered_on<D: Area + Drop>(
     let mut recovery = match Recovery::new(geometry, areas) {
         Ok(recovery) => recovery,
         Err((_, RecoverFault::BadGeometry { area })) => {
-            return Err(OpenFault::BadGeometry { area });
+            return Err(StoreOpenFault::BadGeometry { area });
         }
         Err(_) => unreachable!(),
     };

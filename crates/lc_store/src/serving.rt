@@ -3,7 +3,7 @@ ghost use Rattle.std.specs.Prelude.{◌≡◌, ◌≢◌, length, IfOk};
 ghost use Rattle.lc_stage.specs.Staging.{newcomer};
 ghost use Rattle.lc_stage.specs.Seats.{commit_view, IsSeatOf};
 
-use crate::OpenFault;
+use crate::StoreOpenFault;
 use crate::finding::found;
 use crate::recovering::recovered_on;
 use lc_core::CallFault;
@@ -43,18 +43,18 @@ where
         alloc: Global,
         folder: &'a StoreFolder<'a, R>,
         geometry: Geometry,
-    ) -> Result<(FolderServing<'a, R>, CommitSeat), OpenFault>
+    ) -> Result<(FolderServing<'a, R>, CommitSeat), StoreOpenFault>
         ensures seat { IfOk result (λ made. IsSeatOf made.0.node.stage made.1 × (commit_view made.1 ≡ newcomer geometry.words)) }
         ensures number { IfOk result (λ made. made.0.node.number ≡ 0) }
         ensures room { IfOk result (λ made. made.0.node.stage.room ≡ geometry.words) }
         ensures segments { IfOk result (λ made. length made.0.node.segments.items ≡ geometry.segments) }
-        ensures bad_threads { result ≢ Err OpenFault.BadThreads }
+        ensures bad_threads { result ≢ Err StoreOpenFault.BadThreads }
     {
         let OpenStore { areas, guard } = folder.open(&geometry)?;
         let recovered = recovered_on(alloc, geometry, areas)?;
         match Node::open(alloc, recovered) {
             Ok((node, seat)) => Ok((Serving { node, guard }, seat)),
-            Err(_) => Err(OpenFault::NotUp(CallFault::NoMemory)),
+            Err(_) => Err(StoreOpenFault::NotUp(CallFault::NoMemory)),
         }
     }
 
@@ -67,10 +67,10 @@ where
     pub fn open_as_found(
         alloc: Global,
         folder: &'a StoreFolder<'a, R>,
-    ) -> Result<(FolderServing<'a, R>, CommitSeat), OpenFault>
+    ) -> Result<(FolderServing<'a, R>, CommitSeat), StoreOpenFault>
         ensures seat { IfOk result (λ made. IsSeatOf made.0.node.stage made.1 × (commit_view made.1 ≡ newcomer made.0.node.stage.room)) }
         ensures number { IfOk result (λ made. made.0.node.number ≡ 0) }
-        ensures bad_threads { result ≢ Err OpenFault.BadThreads }
+        ensures bad_threads { result ≢ Err StoreOpenFault.BadThreads }
     {
         Serving::open(alloc, folder, found(alloc, folder, ANY_THREADS)?)
     }

@@ -5,7 +5,7 @@ ghost use Rattle.lc_core.specs.Geometries.{phase_geometry};
 ghost use Rattle.lc_core.specs.Observed.{observed};
 ghost use Rattle.lc_store.specs.Opening.{IsNoThreadCount};
 
-use crate::OpenFault;
+use crate::StoreOpenFault;
 use crate::bringing_up::up_on;
 use crate::finding::found;
 use lc_core::World;
@@ -42,10 +42,10 @@ where
         alloc: Global,
         folder: &'a StoreFolder<'a, R>,
         geometry: Geometry,
-    ) -> Result<FolderStore<'a, R>, OpenFault>
+    ) -> Result<FolderStore<'a, R>, StoreOpenFault>
         ensures up { IfOk result (λ store. (observed ⟦<StoreArea<'a, R> as Area>⟧ store.world).up ≡ true) }
         ensures geometry { IfOk result (λ store. phase_geometry ⟦<StoreArea<'a, R> as Area>⟧ store.world.phase ≡ Some geometry) }
-        ensures bad_threads { result ≢ Err OpenFault.BadThreads }
+        ensures bad_threads { result ≢ Err StoreOpenFault.BadThreads }
     {
         let OpenStore { areas, guard } = folder.open(&geometry)?;
         let world = up_on(alloc, geometry, areas)?;
@@ -63,10 +63,10 @@ where
         alloc: Global,
         folder: &'a StoreFolder<'a, R>,
         threads: u16,
-    ) -> Result<FolderStore<'a, R>, OpenFault>
+    ) -> Result<FolderStore<'a, R>, StoreOpenFault>
         ensures up { IfOk result (λ store. (observed ⟦<StoreArea<'a, R> as Area>⟧ store.world).up ≡ true) }
         ensures geometry { IfOk result (λ store. (g : Sizes) × (phase_geometry ⟦<StoreArea<'a, R> as Area>⟧ store.world.phase ≡ Some g) × (g.threads ≡ threads)) }
-        ensures bad_threads { (result ≡ Err OpenFault.BadThreads) ↔ IsNoThreadCount threads }
+        ensures bad_threads { (result ≡ Err StoreOpenFault.BadThreads) ↔ IsNoThreadCount threads }
     {
         Store::open(alloc, folder, found(alloc, folder, threads)?)
     }

@@ -3,7 +3,7 @@ use crate::stores::{HELLO, LEAST_WORDS, MANY_WORDS, Pair, opened, opened_pair};
 use lc_committer::Committer;
 use lc_disk::MemArea;
 use lc_node::{Commit, Mode, Node, Pumped, Put};
-use lc_service::{Ending, Upkeep, keep_member, keep_node};
+use lc_service::{ShutdownSignal, Upkeep, keep_member, keep_node};
 use std::rt::Clock;
 use std::sync::Wait;
 use std::test::*;
@@ -41,7 +41,7 @@ fn sees_it_stable<R: AllocGlobal + Clock + Wait>(
     rt: &R,
     node: &Node<MemArea>,
     committer: Committer<MemArea>,
-    ending: &Ending,
+    ending: &ShutdownSignal,
 ) -> bool {
     let mut committer = committer;
     let mut work = HELLO;
@@ -62,7 +62,7 @@ fn sees_it_stable<R: AllocGlobal + Clock + Wait>(
 fn a_service_makes_lazy_commits_stable(rt: HostRuntime) -> Result<(), Fail> {
     let (node, seat) = opened(rt.alloc(), MANY_WORDS)?;
     let committer = Committer::new(&node, seat);
-    let ending = Ending::new();
+    let ending = ShutdownSignal::new();
     let (kept, is_stable) = join(
         &rt,
         || keep_node(&rt, &node, &often(), &ending),
@@ -78,7 +78,7 @@ fn sees_it_emptied<R: AllocGlobal + Clock + Wait>(
     rt: &R,
     node: &Node<MemArea>,
     committer: Committer<MemArea>,
-    ending: &Ending,
+    ending: &ShutdownSignal,
 ) -> bool {
     let mut committer = committer;
     for _ in 0..LEAST_WORDS as usize / RECORD_WORDS / 2 {
@@ -102,7 +102,7 @@ fn sees_it_emptied<R: AllocGlobal + Clock + Wait>(
 fn a_service_empties_a_log_that_is_half_full(rt: HostRuntime) -> Result<(), Fail> {
     let (node, seat) = opened(rt.alloc(), LEAST_WORDS)?;
     let committer = Committer::new(&node, seat);
-    let ending = Ending::new();
+    let ending = ShutdownSignal::new();
     let (kept, is_emptied) = join(
         &rt,
         || keep_node(&rt, &node, &often(), &ending),
@@ -118,7 +118,7 @@ fn a_service_empties_a_log_that_is_half_full(rt: HostRuntime) -> Result<(), Fail
 fn a_service_that_is_told_to_end_flushes_once_more(rt: HostRuntime) -> Result<(), Fail> {
     let (node, seat) = opened(rt.alloc(), MANY_WORDS)?;
     let committer = Committer::new(&node, seat);
-    let ending = Ending::new();
+    let ending = ShutdownSignal::new();
     let (kept, done) = join(
         &rt,
         || keep_node(&rt, &node, &rarely(), &ending),
@@ -138,7 +138,11 @@ fn a_service_that_is_told_to_end_flushes_once_more(rt: HostRuntime) -> Result<()
 }
 
 // Goes on at the second node with what the first has sent, until a record came; whether one did.
-fn sees_it_come<R: AllocGlobal + Clock + Wait>(rt: &R, pair: &Pair, ending: &Ending) -> bool {
+fn sees_it_come<R: AllocGlobal + Clock + Wait>(
+    rt: &R,
+    pair: &Pair,
+    ending: &ShutdownSignal,
+) -> bool {
     let mut has_come = false;
     for _ in 0..LOOKS {
         let pumped = pair.cluster.pump(rt, rt.alloc(), 1, 0);
@@ -155,7 +159,7 @@ fn sees_it_come<R: AllocGlobal + Clock + Wait>(rt: &R, pair: &Pair, ending: &End
 #[test]
 fn a_service_sends_the_records_of_its_node(rt: HostRuntime) -> Result<(), Fail> {
     let (pair, first, _second) = opened_pair(rt.alloc(), MANY_WORDS)?;
-    let ending = Ending::new();
+    let ending = ShutdownSignal::new();
     let mut work = Put {
         segment: 2,
         ..HELLO

@@ -2,7 +2,7 @@
 ghost use Rattle.std.specs.Prelude.{◌≡◌, ◌+◌};
 ghost use Rattle.lc_lock.specs.Loans.{key_of, IsLoanOf};
 
-use lc_lock::{Keyed, Loan, Lock};
+use lc_lock::{Keyed, Loan, TicketLock};
 use std::hint::spin_loop;
 use std::process::Abort;
 use std::rt::Clock;
@@ -70,7 +70,7 @@ fn plus_one(tally: Tally) -> Tally
     }
 }
 
-fn add_all<R: Wait>(rt: &R, lock: &Lock<Tally, u64>) {
+fn add_all<R: Wait>(rt: &R, lock: &TicketLock<Tally, u64>) {
     for _ in 0..ADDITIONS {
         let (tally, loan) = lock.lock(rt);
         lock.unlock(plus_one(tally), loan);
@@ -78,7 +78,12 @@ fn add_all<R: Wait>(rt: &R, lock: &Lock<Tally, u64>) {
 }
 
 // Adds as often as each of a crowd does, where now and then the holder is slow, and counts each addition.
-fn add_slowly<R: Clock + Wait>(rt: &R, lock: &Lock<Tally, u64>, passed: &AtomicU64, first: u64) {
+fn add_slowly<R: Clock + Wait>(
+    rt: &R,
+    lock: &TicketLock<Tally, u64>,
+    passed: &AtomicU64,
+    first: u64,
+) {
     for turn in 0..ADDITIONS_OF_EACH {
         let (tally, loan) = lock.lock(rt);
         let turn = turn.wrapping_add(first);
@@ -95,7 +100,7 @@ fn add_slowly<R: Clock + Wait>(rt: &R, lock: &Lock<Tally, u64>, passed: &AtomicU
 }
 
 // The same where each hold spins a little longer than the one before, up to the longest.
-fn add_by_lengths<R: Wait>(rt: &R, lock: &Lock<Tally, u64>, passed: &AtomicU64) {
+fn add_by_lengths<R: Wait>(rt: &R, lock: &TicketLock<Tally, u64>, passed: &AtomicU64) {
     for turn in 0..ADDITIONS_OF_A_PAIR {
         let (tally, loan) = lock.lock(rt);
         for _ in 0..turn % LENGTHS {
@@ -122,7 +127,7 @@ fn watch<R: Abort + Clock>(rt: &R, passed: &AtomicU64, all: u64) {
 }
 
 // Total and additions, under the lock.
-fn look<R: Wait>(rt: &R, lock: &Lock<Tally, u64>) -> (u64, u64) {
+fn look<R: Wait>(rt: &R, lock: &TicketLock<Tally, u64>) -> (u64, u64) {
     let (tally, loan) = lock.lock(rt);
     let seen = (tally.total, tally.additions);
     lock.unlock(tally, loan);
@@ -130,7 +135,7 @@ fn look<R: Wait>(rt: &R, lock: &Lock<Tally, u64>) -> (u64, u64) {
 }
 
 // Waits until so many tickets are out, adds 1 under the lock, and answers which addition that was.
-fn add_as<R: Wait>(rt: &R, lock: &Lock<Tally, u64>, tickets: u32) -> u64 {
+fn add_as<R: Wait>(rt: &R, lock: &TicketLock<Tally, u64>, tickets: u32) -> u64 {
     await_tickets(rt, lock, tickets);
     let (tally, loan) = lock.lock(rt);
     let tally = plus_one(tally);
@@ -139,7 +144,7 @@ fn add_as<R: Wait>(rt: &R, lock: &Lock<Tally, u64>, tickets: u32) -> u64 {
     number
 }
 
-fn await_tickets<R: Wait>(rt: &R, lock: &Lock<Tally, u64>, tickets: u32) {
+fn await_tickets<R: Wait>(rt: &R, lock: &TicketLock<Tally, u64>, tickets: u32) {
     for _ in rt.forever() {
         if lock.tickets_out() >= tickets {
             return;
@@ -150,7 +155,7 @@ fn await_tickets<R: Wait>(rt: &R, lock: &Lock<Tally, u64>, tickets: u32) {
 
 // Who gives a vacant lock its value, at the latest when it is dropped.
 struct Bringer<'a> {
-    lock: &'a Lock<Tally, u64>,
+    lock: &'a TicketLock<Tally, u64>,
     loan: Loan<Tally, u64>,
     ghost own: { IsLoanOf lock.now loan × (key_of lock.now ≡ 7) },
 }
@@ -180,7 +185,7 @@ fn no_addition_is_lost(rt: HostRuntime) -> Result<(), Fail> {
         total: 7,
         additions: 0,
     };
-    let Ok(lock) = Lock::new(rt.alloc(), tally, &7) else {
+    let Ok(lock) = TicketLock::new(rt.alloc(), tally, &7) else {
         return Err(Fail::from("there is memory for a lock"));
     };
     let shared = &lock;
@@ -198,7 +203,7 @@ fn no_wake_is_lost_in_a_crowd(rt: HostRuntime) -> Result<(), Fail> {
         total: 7,
         additions: 0,
     };
-    let Ok(lock) = Lock::new(rt.alloc(), tally, &7) else {
+    let Ok(lock) = TicketLock::new(rt.alloc(), tally, &7) else {
         return Err(Fail::from("there is memory for a lock"));
     };
     let passed = AtomicU64::new(0);
@@ -228,7 +233,7 @@ fn no_wake_is_lost_where_a_thread_falls_asleep(rt: HostRuntime) -> Result<(), Fa
         total: 7,
         additions: 0,
     };
-    let Ok(lock) = Lock::new(rt.alloc(), tally, &7) else {
+    let Ok(lock) = TicketLock::new(rt.alloc(), tally, &7) else {
         return Err(Fail::from("there is memory for a lock"));
     };
     let passed = AtomicU64::new(0);
@@ -253,7 +258,10 @@ fn no_wake_is_lost_where_a_thread_falls_asleep(rt: HostRuntime) -> Result<(), Fa
 
 #[test]
 fn who_locks_a_vacant_lock_waits_for_its_value(rt: HostRuntime) -> Result<(), Fail> {
-    let (lock, loan): (Lock<Tally, u64>, Loan<Tally, u64>) = Lock::vacant(rt.alloc(), &7)?;
+    let (lock, loan): (TicketLock<Tally, u64>, Loan<Tally, u64>) = TicketLock::vacant(
+        rt.alloc(),
+        &7,
+    )?;
     let shared = &lock;
     let host = &rt;
     let bringer = Bringer { lock: shared, loan };
@@ -265,7 +273,10 @@ fn who_locks_a_vacant_lock_waits_for_its_value(rt: HostRuntime) -> Result<(), Fa
 // The second draws its ticket once the first has, and the value comes once both wait.
 #[test]
 fn who_has_waited_longer_is_first(rt: HostRuntime) -> Result<(), Fail> {
-    let (lock, loan): (Lock<Tally, u64>, Loan<Tally, u64>) = Lock::vacant(rt.alloc(), &7)?;
+    let (lock, loan): (TicketLock<Tally, u64>, Loan<Tally, u64>) = TicketLock::vacant(
+        rt.alloc(),
+        &7,
+    )?;
     let shared = &lock;
     let host = &rt;
     let bringer = Bringer { lock: shared, loan };
@@ -285,11 +296,11 @@ fn refused_memory_gives_the_value_back(rt: HostRuntime) -> Result<(), Fail> {
         total: 9,
         additions: 2,
     };
-    let lock = match Lock::new(rt.alloc(), tally, &7) {
+    let lock = match TicketLock::new(rt.alloc(), tally, &7) {
         Ok(lock) => lock,
         Err(tally) => {
             assert!(rt; tally.total == 9 && tally.additions == 2);
-            let Ok(lock) = Lock::new(rt.alloc(), tally, &7) else {
+            let Ok(lock) = TicketLock::new(rt.alloc(), tally, &7) else {
                 return Err(Fail::from("memory is refused once"));
             };
             lock
@@ -304,7 +315,7 @@ fn crosses<X: Send>(_: &X) {}
 fn is_shared<X: Sync>(_: &X) {}
 
 // Both may cross threads wherever the value may.
-fn cross_threads<T: Keyed<K> + Send, K>(lock: &Lock<T, K>, loan: &Loan<T, K>) {
+fn cross_threads<T: Keyed<K> + Send, K>(lock: &TicketLock<T, K>, loan: &Loan<T, K>) {
     crosses(lock);
     is_shared(lock);
     crosses(loan);
@@ -312,7 +323,10 @@ fn cross_threads<T: Keyed<K> + Send, K>(lock: &Lock<T, K>, loan: &Loan<T, K>) {
 
 #[test]
 fn lock_and_loan_cross_threads(rt: HostRuntime) -> Result<(), Fail> {
-    let (lock, loan): (Lock<Tally, u64>, Loan<Tally, u64>) = Lock::vacant(rt.alloc(), &7)?;
+    let (lock, loan): (TicketLock<Tally, u64>, Loan<Tally, u64>) = TicketLock::vacant(
+        rt.alloc(),
+        &7,
+    )?;
     cross_threads(&lock, &loan);
     drop(Bringer { lock: &lock, loan });
     assert!(rt; look(&rt, &lock) == (7, 0));

@@ -2,7 +2,7 @@
 use crate::act::Act;
 use crate::changing::{refused, with_node, with_segment};
 use crate::pair::left;
-use lc_core::{AdoptFault, Part};
+use lc_core::{AdoptFault, ClusterPart};
 use lc_node::Put;
 use std::alloc::Global;
 use std::sync::Wait;
@@ -97,7 +97,7 @@ const CROSSED_BACK: &[(u16, Act)] = &[
     (SECOND, Act::Commit(BESIDE)),
 ];
 
-fn mismatch(part: Part) -> Option<AdoptFault> {
+fn mismatch(part: ClusterPart) -> Option<AdoptFault> {
     Some(AdoptFault::Mismatch(part))
 }
 
@@ -131,7 +131,7 @@ fn refused_with_segment<R: Wait>(
 
 #[test]
 fn each_refusal_has_its_number(rt: HostRuntime) -> Result<(), Fail> {
-    assert!(rt; AdoptFault::Mismatch(Part::Log(1)).code() == 1);
+    assert!(rt; AdoptFault::Mismatch(ClusterPart::Log(1)).code() == 1);
     assert!(rt; AdoptFault::NoMemory.code() == 2);
     assert!(rt; AdoptFault::DeviceFault.code() == 3);
     Ok(())
@@ -150,9 +150,9 @@ fn parts_of_others_that_fit_are_not_refused(rt: HostRuntime) -> Result<(), Fail>
 fn a_log_with_a_record_of_another_node_is_named(rt: HostRuntime) -> Result<(), Fail> {
     let alloc = rt.alloc();
     let second = refused_with_node(&rt, alloc, BOTH, 1, BOTH, 0)?;
-    assert!(rt; second == mismatch(Part::Log(1)));
+    assert!(rt; second == mismatch(ClusterPart::Log(1)));
     let first = refused_with_node(&rt, alloc, BOTH, 0, BOTH, 1)?;
-    assert!(rt; first == mismatch(Part::Log(0)));
+    assert!(rt; first == mismatch(ClusterPart::Log(0)));
     Ok(())
 }
 
@@ -162,21 +162,21 @@ fn a_log_with_a_record_outside_of_its_segment_is_named(rt: HostRuntime) -> Resul
     let short = left(&rt, alloc, 1, NOTHING)?;
     let long = left(&rt, alloc, 2, &[(FIRST, Act::Commit(BEHIND))])?;
     let parts = with_node(short, 0, long, 0)?;
-    assert!(rt; refused(alloc, parts) == mismatch(Part::Log(0)));
+    assert!(rt; refused(alloc, parts) == mismatch(ClusterPart::Log(0)));
     Ok(())
 }
 
 #[test]
 fn a_log_that_knows_more_than_a_token_is_named(rt: HostRuntime) -> Result<(), Fail> {
     let early = refused_with_segment(&rt, rt.alloc(), WRITTEN, 1, ONE, 1)?;
-    assert!(rt; early == mismatch(Part::Log(0)));
+    assert!(rt; early == mismatch(ClusterPart::Log(0)));
     Ok(())
 }
 
 #[test]
 fn a_token_of_another_segment_is_named(rt: HostRuntime) -> Result<(), Fail> {
     let other = refused_with_segment(&rt, rt.alloc(), NOTHING, 0, NOTHING, 1)?;
-    assert!(rt; other == mismatch(Part::Token(1)));
+    assert!(rt; other == mismatch(ClusterPart::Token(1)));
     Ok(())
 }
 
@@ -184,9 +184,9 @@ fn a_token_of_another_segment_is_named(rt: HostRuntime) -> Result<(), Fail> {
 fn a_token_of_another_number_than_its_records_is_named(rt: HostRuntime) -> Result<(), Fail> {
     let alloc = rt.alloc();
     let early = refused_with_segment(&rt, alloc, ONE, 1, NOTHING, 1)?;
-    assert!(rt; early == mismatch(Part::Token(2)));
+    assert!(rt; early == mismatch(ClusterPart::Token(2)));
     let late = refused_with_segment(&rt, alloc, NOTHING, 1, ONE, 1)?;
-    assert!(rt; late == mismatch(Part::Token(2)));
+    assert!(rt; late == mismatch(ClusterPart::Token(2)));
     Ok(())
 }
 
@@ -197,7 +197,7 @@ fn a_log_is_named_where_no_record_is_the_next(rt: HostRuntime) -> Result<(), Fai
     let crossed = left(&rt, alloc, PAGES, CROSSED)?;
     let node = with_node(crossed, 1, left(&rt, alloc, PAGES, CROSSED_BACK)?, 1)?;
     let both = with_segment(node, 1, left(&rt, alloc, PAGES, CROSSED_BACK)?, 1)?;
-    assert!(rt; refused(alloc, both) == mismatch(Part::Log(0)));
+    assert!(rt; refused(alloc, both) == mismatch(ClusterPart::Log(0)));
     assert!(rt; refused(alloc, left(&rt, alloc, PAGES, CROSSED)?).is_none());
     assert!(rt; refused(alloc, left(&rt, alloc, PAGES, CROSSED_BACK)?).is_none());
     Ok(())
@@ -206,7 +206,7 @@ fn a_log_is_named_where_no_record_is_the_next(rt: HostRuntime) -> Result<(), Fai
 #[test]
 fn a_page_of_other_bytes_than_its_record_is_named(rt: HostRuntime) -> Result<(), Fail> {
     let other = refused_with_segment(&rt, rt.alloc(), WRITTEN, 1, OTHER_WRITTEN, 1)?;
-    assert!(rt; other == mismatch(Part::Image(2)));
+    assert!(rt; other == mismatch(ClusterPart::Image(2)));
     Ok(())
 }
 
@@ -214,8 +214,8 @@ fn a_page_of_other_bytes_than_its_record_is_named(rt: HostRuntime) -> Result<(),
 fn an_image_that_the_records_do_not_make_is_named(rt: HostRuntime) -> Result<(), Fail> {
     let alloc = rt.alloc();
     let other = refused_with_node(&rt, alloc, ONE, 1, OTHER_APPLIED, 1)?;
-    assert!(rt; other == mismatch(Part::Image(2)));
+    assert!(rt; other == mismatch(ClusterPart::Image(2)));
     let ahead = refused_with_node(&rt, alloc, ONE, 1, APPLIED_TWICE, 1)?;
-    assert!(rt; ahead == mismatch(Part::Image(2)));
+    assert!(rt; ahead == mismatch(ClusterPart::Image(2)));
     Ok(())
 }

@@ -14,7 +14,7 @@ use crate::seats::{Open, TRIES, put, put_and_confirm};
 use crate::shared::{SharedArea, area_of, zeros};
 use crate::stores::{SEGMENT_BYTES, recovered};
 use lc_adopt::into_world;
-use lc_core::{Event, Part, Reply, World};
+use lc_core::{ClusterPart, Event, Reply, World};
 use lc_disk::{Area, Choice, Fuse, MemArea, When};
 use lc_node::{Cluster, Commit, Confirmed, Mode, Node, NodeFault, Put};
 use lc_record::{Geometry, Items};
@@ -657,7 +657,7 @@ fn a_log_that_failed_is_named(rt: HostRuntime) -> Result<(), Fail> {
     assert!(rt; matches!(failed, Err(NodeFault::DeviceFault)));
     assert!(rt; first.flush(&rt) == Err(NodeFault::Halted));
     let named = match come_up(&rt, alloc, cluster) {
-        Err(NodeFault::Mismatch { part }) => part == Part::Log(0),
+        Err(NodeFault::Mismatch { part }) => part == ClusterPart::Log(0),
         _ => false,
     };
     assert!(rt; named);
@@ -720,7 +720,7 @@ fn areas_of(alloc: Global, shelves: &[Vec<AtomicU8>]) -> Result<Vec<SharedArea<'
 #[test]
 fn a_page_of_another_number_is_named(rt: HostRuntime) -> Result<(), Fail> {
     let token = NodeFault::Mismatch {
-        part: Part::Token(2),
+        part: ClusterPart::Token(2),
     };
     assert!(rt; named_where_changed(&rt, rt.alloc(), NUMBER)? == Some(token));
     Ok(())
@@ -729,7 +729,7 @@ fn a_page_of_another_number_is_named(rt: HostRuntime) -> Result<(), Fail> {
 #[test]
 fn an_image_that_is_not_on_its_page_is_named(rt: HostRuntime) -> Result<(), Fail> {
     let image = NodeFault::Mismatch {
-        part: Part::Image(2),
+        part: ClusterPart::Image(2),
     };
     assert!(rt; named_where_changed(&rt, rt.alloc(), CONTENT + 100)? == Some(image));
     Ok(())

@@ -8,7 +8,7 @@ use lc_disk::{FileArea, Stoppable};
 use lc_files::{FileName, FolderFault, Misfit, StoreFolder};
 use lc_node::{Commit, Mode, Put};
 use lc_record::Geometry;
-use lc_store::{OpenFault, Serving, Store};
+use lc_store::{Serving, Store, StoreOpenFault};
 use std::fs;
 use std::process::Abort;
 use std::test::*;
@@ -19,12 +19,12 @@ const HELLO: Put<'static> = Put {
     bytes: b"hello",
 };
 
-const IN_USE: OpenFault = OpenFault::Folder(FolderFault::Failed);
+const IN_USE: StoreOpenFault = StoreOpenFault::Folder(FolderFault::Failed);
 
-const NO_LOG: OpenFault = OpenFault::NoStore(Misfit::Missing(FileName::Log(0)));
+const NO_LOG: StoreOpenFault = StoreOpenFault::NoStore(Misfit::Missing(FileName::Log(0)));
 
 // The segments are after the one log.
-const SHORT_SEGMENT: OpenFault = OpenFault::BadGeometry { area: 1 };
+const SHORT_SEGMENT: StoreOpenFault = StoreOpenFault::BadGeometry { area: 1 };
 
 #[test]
 fn what_a_node_made_durable_a_store_reads(rt: HostRuntime) -> Result<(), Fail> {

@@ -1,38 +1,38 @@
 -- How far the pages of a segment on the disk have come.
 use Rattle.std.specs.Prelude.{◌≡◌, ◌⊎◌, ℕ, ◌<◌, ◌≤◌, ◌^◌, true, max, min, Option, Some, None, List, length, slice_set}
-use Rattle.lc_page.specs.declared.entry.Entry.{Entry}
+use Rattle.lc_page.specs.declared.page_entry.PageEntry.{PageEntry}
 use Rattle.lc_page.specs.PageVector.{entry_at, is_dirty, settled}
 use Rattle.lc_token.specs.declared.token.Token.{Token}
 
 -- the token of a segment all of whose records, up to this number, are on these pages on the disk
-abbrev pub recovered_token : ℕ → ℕ → List Entry → Token
+abbrev pub recovered_token : ℕ → ℕ → List PageEntry → Token
 recovered_token segment number pages = record { segment = segment; seq = number; clean = number; pages = pages }
 
 -- the page is one of these, and dirty; a page's number has 32 bits
-abbrev pub IsDirtyPage : List Entry → ℕ → Type 0
+abbrev pub IsDirtyPage : List PageEntry → ℕ → Type 0
 IsDirtyPage pages page = (page < length pages) × (page < 2 ^ 32) × (is_dirty (entry_at pages page) ≡ true)
 
 -- no page is dirty
-abbrev pub AreClean : List Entry → Type 0
+abbrev pub AreClean : List PageEntry → Type 0
 AreClean pages = (page : ℕ) → ¬ IsDirtyPage pages page
 
 -- some dirty page has this number on the disk, and no dirty page a lower one
-abbrev pub IsLeastStable : List Entry → ℕ → Type 0
+abbrev pub IsLeastStable : List PageEntry → ℕ → Type 0
 IsLeastStable pages number =
     ((page : ℕ) × IsDirtyPage pages page × ((entry_at pages page).stable ≡ number))
     × ((page : ℕ) → IsDirtyPage pages page → number ≤ (entry_at pages page).stable)
 
 -- some dirty page has no greater number on the disk
-abbrev pub HasOlder : List Entry → ℕ → Type 0
+abbrev pub HasOlder : List PageEntry → ℕ → Type 0
 HasOlder pages number = (page : ℕ) × IsDirtyPage pages page × ((entry_at pages page).stable ≤ number)
 
 -- the least number that a dirty page has on the disk, if a page is dirty
-abbrev pub IsOldestDirty : List Entry → Option ℕ → Type 0
+abbrev pub IsOldestDirty : List PageEntry → Option ℕ → Type 0
 IsOldestDirty pages None = AreClean pages
 IsOldestDirty pages (Some number) = IsLeastStable pages number
 
 -- the number that the pages on the disk have reached: the token's, or the least that a dirty page has
-abbrev pub IsReached : ℕ → List Entry → ℕ → Type 0
+abbrev pub IsReached : ℕ → List PageEntry → ℕ → Type 0
 IsReached seq pages reached = (AreClean pages × (reached ≡ seq)) ⊎ IsLeastStable pages reached
 
 -- the least of a number, and of those before it

@@ -6,7 +6,7 @@ ghost use Rattle.lc_record.specs.Record.{Writes};
 ghost use Rattle.lc_token.specs.Backlog.{Ascends, HandsOut, HandsOutKept, IsNext, PassesOn, Receives, advanced, counted, due_behind, forgetting, fresh, is_known, keeping};
 
 use crate::due::Due;
-use crate::kept::Kept;
+use crate::held_parts::HeldParts;
 use crate::{Received, TokenFault};
 use lc_record::{Part, Record};
 use std::alloc::{AllocError, Global};
@@ -20,7 +20,7 @@ pub struct HoldBack {
     segment: u32,
     applied: u64,
     due: Due,
-    kept: Kept,
+    kept: HeldParts,
 }
 
 impl Model for HoldBack {
@@ -44,7 +44,7 @@ impl HoldBack {
             segment,
             applied,
             due: Due::new(alloc),
-            kept: Kept::new(alloc),
+            kept: HeldParts::new(alloc),
         }
     }
 

@@ -3,8 +3,8 @@
 
 mod due;
 mod fault;
+mod held_parts;
 mod hold_back;
-mod kept;
 mod laws;
 mod received;
 mod token;

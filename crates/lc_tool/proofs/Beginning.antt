@@ -23,8 +23,8 @@ use Rattle.lc_tool.specs.Outcome.{EndsWith, IsGivenUp, IsRecovered, OpensStore, 
 use Rattle.lc_tool.specs.Script.{Given, Opens, RunsRead, RunsScript}
 use Rattle.lc_recover.specs.Reads.{AllMergeTo, AreHonest, HaveLengths}
 use Rattle.lc_recover.specs.Recovery.{begun}
-use Rattle.lc_core.specs.declared.phase.Phase.{Phase}
-use Rattle.lc_core.specs.declared.phase.Phase.TheVariants.{Down}
+use Rattle.lc_core.specs.declared.world_phase.WorldPhase.{WorldPhase}
+use Rattle.lc_core.specs.declared.world_phase.WorldPhase.TheVariants.{Down}
 use Rattle.lc_tool.specs.Store.{AreKnown, RunsStore}
 use Rattle.lc_look.specs.Refused.{AreRefused, RefusesLengths, RefusesMerge, merge_refusal}
 use Rattle.lc_tool.proofs.ScriptLemmas.{keeps_then}
@@ -85,8 +85,8 @@ keeps_all None = tt
 keeps_all (Some xs) = refl
 
 -- a store of these areas is down at first
-pub down_at : {D : Type 0} (a : Ghosts D) (g : Geometry) (phase : Phase D a) (areas : List D) → phase ≡ Down (begun g areas) → FitsLife a g None phase
-down_at {D} a g phase areas is = subst (λ (p : Phase D a). FitsLife a g None p) (sym is) refl
+pub down_at : {D : Type 0} (a : Ghosts D) (g : Geometry) (phase : WorldPhase D a) (areas : List D) → phase ≡ Down (begun g areas) → FitsLife a g None phase
+down_at {D} a g phase areas is = subst (λ (p : WorldPhase D a). FitsLife a g None p) (sym is) refl
 
 module _ {D : Type 0} (a : Ghosts D) (old new : World D a) (held holds : Option (List ℕ)) where
   abbrev pub Tells : Option ℕ → Type 0

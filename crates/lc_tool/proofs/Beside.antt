@@ -17,8 +17,8 @@ use Rattle.lc_core.specs.Numbers.{Numbers}
 use Rattle.lc_core.specs.Recovers.{RefusesAtOnce}
 use Rattle.lc_core.specs.Stepping.{works_up}
 use Rattle.lc_core.specs.World.{FollowsAnyhow}
-use Rattle.lc_core.specs.declared.phase.Phase.{Phase}
-use Rattle.lc_core.specs.declared.phase.Phase.TheVariants.{Down, Up, Taken}
+use Rattle.lc_core.specs.declared.world_phase.WorldPhase.{WorldPhase}
+use Rattle.lc_core.specs.declared.world_phase.WorldPhase.TheVariants.{Down, Up, Taken}
 use Rattle.lc_core.specs.declared.world.World.{World}
 use Rattle.lc_core.proofs.Living.{one_lives}
 use Rattle.lc_look.specs.Printed.{Adds}
@@ -40,7 +40,7 @@ refused_down reply verdict text_of same is by = (ap text_of is ∙ same, by ∙ 
 
 module _ {D : Type 0} (a : Ghosts D) where
   -- the geometry is that of the life
-  pub life_geometry : (g : Geometry) (at : Option Life) (phase : Phase D a) → FitsLife a g at phase → phase_geometry a phase ≡ Some g
+  pub life_geometry : (g : Geometry) (at : Option Life) (phase : WorldPhase D a) → FitsLife a g at phase → phase_geometry a phase ≡ Some g
   life_geometry g None (Down r) fits = ap (λ (h : Geometry). Some h) fits
   life_geometry g None (Up up) fits = absurd fits
   life_geometry g None Taken fits = absurd fits
@@ -49,11 +49,11 @@ module _ {D : Type 0} (a : Ghosts D) where
   life_geometry g (Some life) Taken fits = absurd fits
 
   -- What is told of an event that is no stop
-  pub told_by : (old new : Phase D a) (event : Event) (reply : Reply) → ((choices : List (List Choice)) → event ≡ Stop choices → ⊥) → (((choices : List (List Choice)) → event ≡ Stop choices → ⊥) → Anyhow a old event reply new)
+  pub told_by : (old new : WorldPhase D a) (event : Event) (reply : Reply) → ((choices : List (List Choice)) → event ≡ Stop choices → ⊥) → (((choices : List (List Choice)) → event ≡ Stop choices → ⊥) → Anyhow a old event reply new)
       → RefusesAtOnce a old event reply new → Told a old event reply new
   told_by old new event reply not anyhow at_once = record { anyhow = anyhow; at_once = at_once; stops = λ choices is. absurd (not choices is) }
 
-  pub told_all : {E : Type 0} (old new : Phase D a) (event : Event) (result : Result Reply E) → ((choices : List (List Choice)) → event ≡ Stop choices → ⊥)
+  pub told_all : {E : Type 0} (old new : WorldPhase D a) (event : Event) (result : Result Reply E) → ((choices : List (List Choice)) → event ≡ Stop choices → ⊥)
       → IfOk result (λ reply. ((choices : List (List Choice)) → event ≡ Stop choices → ⊥) → Anyhow a old event reply new) → IfOk result (λ reply. RefusesAtOnce a old event reply new)
       → IfOk result (λ reply. Told a old event reply new)
   told_all old new event (Ok reply) not anyhow at_once = told_by old new event reply not anyhow at_once
@@ -61,7 +61,7 @@ module _ {D : Type 0} (a : Ghosts D) where
 
   -- One that is up
 
-  at_phase : (g : Geometry) (life : Life) (w : World D a) (phase : Phase D a) → w.phase ≡ phase → FitsLife a g (Some life) phase → IsUpBeside a life.setting w life.state life.numbers × (life.setting.geometry ≡ g)
+  at_phase : (g : Geometry) (life : Life) (w : World D a) (phase : WorldPhase D a) → w.phase ≡ phase → FitsLife a g (Some life) phase → IsUpBeside a life.setting w life.state life.numbers × (life.setting.geometry ≡ g)
   at_phase g life w (Up up) is fits = ((up, is, fits.0), fits.1)
   at_phase g life w (Down r) is fits = absurd fits
   at_phase g life w Taken is fits = absurd fits
@@ -70,7 +70,7 @@ module _ {D : Type 0} (a : Ghosts D) where
   up_of g life w fits = at_phase g life w w.phase refl fits
 
   pub life_of : (g : Geometry) (life : Life) (w : World D a) → IsUpBeside a life.setting w life.state life.numbers → life.setting.geometry ≡ g → FitsLife a g (Some life) w.phase
-  life_of g life w beside same = subst (λ (p : Phase D a). FitsLife a g (Some life) p) (sym beside.1) (beside.2, same)
+  life_of g life w beside same = subst (λ (p : WorldPhase D a). FitsLife a g (Some life) p) (sym beside.1) (beside.2, same)
 
   -- a step of it
   pub up_follows : (old new : World D a) (event : Event) (reply : Reply) → FollowsAnyhow a old.phase event reply new.phase → Follows a (IsUpBeside a) old event reply new
@@ -89,11 +89,11 @@ module _ {D : Type 0} (a : Ghosts D) where
 
   -- One that is down
 
-  down_refuses : (old new : Phase D a) (event : Event) (reply : Reply) (g : Geometry) → works_up event ≡ true → RefusesAtOnce a old event reply new → FitsLife a g None old
+  down_refuses : (old new : WorldPhase D a) (event : Event) (reply : Reply) (g : Geometry) → works_up event ≡ true → RefusesAtOnce a old event reply new → FitsLife a g None old
       → (reply ≡ Refused IsDown) × FitsLife a g None new
   down_refuses (Down r) new event reply g works at_once fits =
       let its = at_once IsDown (ap (λ (b : Bool). if b then Some IsDown else None) works) in
-      (its.0, subst (λ (p : Phase D a). FitsLife a g None p) (sym its.1) fits)
+      (its.0, subst (λ (p : WorldPhase D a). FitsLife a g None p) (sym its.1) fits)
   down_refuses (Up up) new event reply g works at_once fits = absurd fits
   down_refuses Taken new event reply g works at_once fits = absurd fits
 

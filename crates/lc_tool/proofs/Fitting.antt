@@ -14,19 +14,19 @@ use Rattle.lc_recover.specs.Steps.{first_steps}
 use Rattle.lc_model.specs.declared.reply.Reply.{Reply}
 use Rattle.lc_model.specs.declared.reply.Reply.TheVariants.{Stepped}
 use Rattle.lc_core.specs.Recovers.{AnswersRecovery}
-use Rattle.lc_core.specs.declared.phase.Phase.{Phase}
+use Rattle.lc_core.specs.declared.world_phase.WorldPhase.{WorldPhase}
 use Rattle.lc_model.specs.State.{Setting, State}
 use Rattle.lc_model.specs.Stored.{records_of}
 use Rattle.lc_core.specs.Log.{Stands, area_of}
 use Rattle.lc_core.specs.LogWords.{AreLogged, ShowRecords, log_area}
-use Rattle.lc_core.specs.Node.{FitsNode}
+use Rattle.lc_core.specs.NodeState.{FitsNode}
 use Rattle.lc_core.specs.Numbers.{Numbers}
 use Rattle.lc_core.specs.Running.{FitsRunning}
 use Rattle.lc_core.specs.World.{FitsDown, FitsPhase}
 use Rattle.lc_core.specs.declared.log.Log.{Log}
 use Rattle.lc_core.specs.declared.log.Log.TheVariants.{Idle, Written, Synced, Opened, Sealed, Closing, Emptied, Failed, Torn, Taken as NoLog}
-use Rattle.lc_core.specs.declared.node.Node.{Node}
-use Rattle.lc_core.specs.declared.phase.Phase.TheVariants.{Down, Up}
+use Rattle.lc_core.specs.declared.node_state.NodeState.{NodeState}
+use Rattle.lc_core.specs.declared.world_phase.WorldPhase.TheVariants.{Down, Up}
 use Rattle.lc_core.specs.declared.up.Up.{Up as Rising}
 
 module _ {D : Type 0} (a : Ghosts D) where
@@ -63,7 +63,7 @@ module _ {D : Type 0} (a : Ghosts D) where
 
   -- a node of the geometry
   pub known_node : (up : Rising D a) (m : Setting) (s : State) (x : Numbers) (node : ℕ) → FitsRunning a m up.running s x → node < m.geometry.nodes
-      → (its : Node D a) × (slice_get up.running.nodes.items node ≡ Some its) × FitsNode a m node its s x
+      → (its : NodeState D a) × (slice_get up.running.nodes.items node ≡ Some its) × FitsNode a m node its s x
   known_node up m s x node fits below =
       let long : vec_len up.running.nodes ≡ m.geometry.nodes = up.running.all_nodes ∙ ap (λ (g : Geometry). g.nodes) (sym fits.geometry_is) in
       elim ((slice_get_cases up.running.nodes.items node).1) [
@@ -88,10 +88,10 @@ module _ {D : Type 0} (a : Ghosts D) where
       rw (slice_get_past up.running.nodes.items node (omega (arith, long, above))) refl
 
   -- the areas that were read as they are, before the merge
-  pub reads_same : (r later : Recovering D) (reply : Reply) (new : Phase D a) (steps : ℕ) → AnswersRecovery a r reply new → new ≡ Down later → r.steps + 1 < first_steps r.geometry
+  pub reads_same : (r later : Recovering D) (reply : Reply) (new : WorldPhase D a) (steps : ℕ) → AnswersRecovery a r reply new → new ≡ Down later → r.steps + 1 < first_steps r.geometry
       → AreHonest a r.areas → reply ≡ Stepped steps → AreHonest a later.areas × (map a.now later.areas ≡ map a.now r.areas)
   reads_same r later reply new steps answers down before honest is = answers.reads later down before honest steps is
 
   -- a recovery has so many steps at most
-  pub few_steps : (r : Recovering D) (reply : Reply) (new : Phase D a) (steps : ℕ) → AnswersRecovery a r reply new → reply ≡ Stepped steps → steps ≤ all_steps r.geometry (r.geometry.segments * r.geometry.pages)
+  pub few_steps : (r : Recovering D) (reply : Reply) (new : WorldPhase D a) (steps : ℕ) → AnswersRecovery a r reply new → reply ≡ Stepped steps → steps ≤ all_steps r.geometry (r.geometry.segments * r.geometry.pages)
   few_steps r reply new steps answers is = answers.few steps is

@@ -15,8 +15,8 @@ use Rattle.lc_core.specs.Lives.{StillLives}
 use Rattle.lc_core.specs.LogWords.{ReadsLog, ReadsNone, log_area}
 use Rattle.lc_core.specs.Places.{same_some}
 use Rattle.lc_core.specs.Recovers.{RefusesAtOnce}
-use Rattle.lc_core.specs.declared.phase.Phase.{Phase}
-use Rattle.lc_core.specs.declared.phase.Phase.TheVariants.{Down, Up, Taken}
+use Rattle.lc_core.specs.declared.world_phase.WorldPhase.{WorldPhase}
+use Rattle.lc_core.specs.declared.world_phase.WorldPhase.TheVariants.{Down, Up, Taken}
 use Rattle.lc_core.specs.declared.show_fault.ShowFault.{ShowFault}
 use Rattle.lc_core.specs.declared.show_fault.ShowFault.TheVariants.{Unknown as IsUnknown, DeviceFault as HasFailed, NoMemory}
 use Rattle.lc_text.specs.Text.{refusal_text}
@@ -33,7 +33,7 @@ outside_names g (Some n) out = refl
 
 module _ {D : Type 0} (a : Ghosts D) where
   -- a step of a store of this geometry
-  pub step_keeps : (old new : Phase D a) (event : Event) (reply : Reply) → RefusesOutside a old event reply → RefusesAtOnce a old event reply new → (g : Geometry) → phase_geometry a old ≡ Some g
+  pub step_keeps : (old new : WorldPhase D a) (event : Event) (reply : Reply) → RefusesOutside a old event reply → RefusesAtOnce a old event reply new → (g : Geometry) → phase_geometry a old ≡ Some g
       → KeepsTo g event reply
   step_keeps (Up up) new event reply outside at_once g is = subst (λ (h : Geometry). KeepsTo h event reply) (same_some up.running.geometry g is)
       (record { outside = λ out. inl (outside.outside out); inside = outside.inside })
@@ -43,8 +43,8 @@ module _ {D : Type 0} (a : Ghosts D) where
   }
   step_keeps Taken new event reply outside at_once g is = absurd cc
 
-  pub steps_keep : {E : Type 0} (old new : Phase D a) (event : Event) (result : Result Reply E) → IfOk result (λ reply. RefusesOutside a old event reply)
-      → IfOk result (λ reply. RefusesAtOnce a old event reply new) → (first : Phase D a) → phase_geometry a old ≡ phase_geometry a first
+  pub steps_keep : {E : Type 0} (old new : WorldPhase D a) (event : Event) (result : Result Reply E) → IfOk result (λ reply. RefusesOutside a old event reply)
+      → IfOk result (λ reply. RefusesAtOnce a old event reply new) → (first : WorldPhase D a) → phase_geometry a old ≡ phase_geometry a first
       → IfOk result (λ reply. ForSome (phase_geometry a first) (λ g. KeepsTo g event reply))
   steps_keep old new event (Ok reply) outside at_once first same = λ g is. step_keeps old new event reply outside at_once g (same ∙ is)
   steps_keep old new event (Err e) outside at_once first same = tt
@@ -52,14 +52,14 @@ module _ {D : Type 0} (a : Ghosts D) where
   -- The log of a node
 
   -- be it read or not, the store lives on
-  pub log_lives : {X Y : Type 0} (node : ℕ) (old new : Phase D a) (failed : Bool) → (log_area a old node ≡ None → X × ReadsNone a node old new)
+  pub log_lives : {X Y : Type 0} (node : ℕ) (old new : WorldPhase D a) (failed : Bool) → (log_area a old node ≡ None → X × ReadsNone a node old new)
       → ((area : D) → log_area a old node ≡ Some area → Y × ReadsLog a node area old new failed) → StillLives a old new
   log_lives node old new failed none some = elim (log_area a old node) as (λ (o : Option D). log_area a old node ≡ o → StillLives a old new) [
     | None ↦ λ is. (none is).1.same.lives
     | Some area ↦ λ is. (some area is).1.same.lives
   ] refl
 
-  module _ {A : Type 0} (phase : Phase D a) (node : ℕ) (text_of : A → List ℕ) (g : Geometry) (nodes : is_some (log_area a phase node) ≡ is_node g node) where
+  module _ {A : Type 0} (phase : WorldPhase D a) (node : ℕ) (text_of : A → List ℕ) (g : Geometry) (nodes : is_some (log_area a phase node) ≡ is_node g node) where
     abbrev TellsAs : Bool → List ℕ → Verdict → Type 0
     TellsAs known text verdict = MatchBool known (TellsShown text_of text verdict ⊎ TellsRefusal DeviceFault text verdict) (TellsRefusal Unknown text verdict)
 

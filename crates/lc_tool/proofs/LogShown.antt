@@ -20,8 +20,8 @@ use Rattle.lc_model.specs.declared.refusal.Refusal.TheVariants.{DeviceFault, Unk
 use Rattle.lc_core.specs.LogWords.{AreWordsOf, ReadsLog, ReadsNone, ShowRecords, has_failed, log_area}
 use Rattle.lc_core.specs.Numbers.{Numbers}
 use Rattle.lc_core.specs.World.{FitsPhase, FitsWorld}
-use Rattle.lc_core.specs.declared.phase.Phase.{Phase}
-use Rattle.lc_core.specs.declared.phase.Phase.TheVariants.{Down, Up, Taken}
+use Rattle.lc_core.specs.declared.world_phase.WorldPhase.{WorldPhase}
+use Rattle.lc_core.specs.declared.world_phase.WorldPhase.TheVariants.{Down, Up, Taken}
 use Rattle.lc_core.specs.declared.show_fault.ShowFault.{ShowFault}
 use Rattle.lc_core.specs.declared.show_fault.ShowFault.TheVariants.{Unknown as IsUnknown, DeviceFault as HasFailed, NoMemory}
 use Rattle.lc_core.specs.declared.world.World.{World}
@@ -47,7 +47,7 @@ one_list records found whole text =
 
 module _ {D : Type 0} (a : Ghosts D) where
   -- the words that a store has of a log are those of the records in it
-  words_in_log : (phase : Phase D a) (m : Setting) (s : State) (x : Numbers) (node : ℕ) (area : D) (words : List ℕ) → FitsPhase a m phase s x → is_node m.geometry node ≡ true
+  words_in_log : (phase : WorldPhase D a) (m : Setting) (s : State) (x : Numbers) (node : ℕ) (area : D) (words : List ℕ) → FitsPhase a m phase s x → is_node m.geometry node ≡ true
       → log_area a phase node ≡ Some area → AreWordsOf a area words → ShowRecords a phase node words → HasWords (AreInLog s.phase m s x node) words
   words_in_log (Down r) m s x node area words fits known there are show =
       let text = text_in (words_of (a.now area)) in

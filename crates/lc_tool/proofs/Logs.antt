@@ -12,8 +12,8 @@ use Rattle.lc_model.specs.Stored.{records_of}
 use Rattle.lc_core.specs.LogWords.{AreLogged, log_area, logged_records}
 use Rattle.lc_core.specs.Numbers.{Numbers, stable_records}
 use Rattle.lc_core.specs.World.{FitsPhase}
-use Rattle.lc_core.specs.declared.phase.Phase.{Phase as ItsPhase}
-use Rattle.lc_core.specs.declared.phase.Phase.TheVariants.{Down, Up, Taken}
+use Rattle.lc_core.specs.declared.world_phase.WorldPhase.{WorldPhase as ItsPhase}
+use Rattle.lc_core.specs.declared.world_phase.WorldPhase.TheVariants.{Down, Up, Taken}
 use Rattle.lc_tool.specs.Shown.{AreInLog}
 use Rattle.lc_tool.proofs.Fitting.{down_log, running_fits, up_log, up_none}
 

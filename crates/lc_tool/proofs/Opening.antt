@@ -3,7 +3,7 @@ use Rattle.std.proofs.Common.{◌≡◌, ◌∙◌, ◌⊎◌, ℕ, ◌+◌, ◌
 use Rattle.std.proofs.lemmas.Bool.{cases_eq as same_or_not}
 use Rattle.lc_disk.specs.declared.area.Area.{Ghosts}
 use Rattle.lc_record.specs.declared.geometry.Geometry.{Geometry}
-use Rattle.lc_model.specs.Merge.{MergeFault, Refuses, Store}
+use Rattle.lc_model.specs.Merge.{MergeFault, Refuses, StoreText}
 use Rattle.lc_model.specs.declared.refusal.Refusal.TheVariants.{DeviceFault}
 use Rattle.lc_model.specs.declared.reply.Reply.{Reply}
 use Rattle.lc_model.specs.declared.reply.Reply.TheVariants.{Stepped, Refused}
@@ -11,8 +11,8 @@ use Rattle.lc_recover.specs.Reads.{AreHonest, ReadsRefused, store_of}
 use Rattle.lc_recover.specs.Recovery.{Recovering, begun, IsMergeNext}
 use Rattle.lc_recover.specs.Steps.{first_steps}
 use Rattle.lc_core.specs.Recovers.{AnswersMerge, AnswersRecovery, RecoversDown}
-use Rattle.lc_core.specs.declared.phase.Phase.{Phase}
-use Rattle.lc_core.specs.declared.phase.Phase.TheVariants.{Down}
+use Rattle.lc_core.specs.declared.world_phase.WorldPhase.{WorldPhase}
+use Rattle.lc_core.specs.declared.world_phase.WorldPhase.TheVariants.{Down}
 use Rattle.lc_tool.specs.Answers.{IsStepped}
 use Rattle.lc_look.specs.Refused.{merge_refusal}
 use Rattle.lc_tool.proofs.Fitting.{reads_same}
@@ -27,7 +27,7 @@ less_or_same k n within other = go (nat_lt k n) refl
 
 module _ {D : Type 0} (a : Ghosts D) (g : Geometry) (areas : List D) (fault : MergeFault) where
   -- the store is down, its merge is still to come, and its areas read as they did
-  pub record IsBefore (phase : Phase D a) : Type 0 where
+  pub record IsBefore (phase : WorldPhase D a) : Type 0 where
     pub r : Recovering D
     pub down : phase ≡ Down r
     pub geometry : r.geometry ≡ g
@@ -42,7 +42,7 @@ module _ {D : Type 0} (a : Ghosts D) (g : Geometry) (areas : List D) (fault : Me
     -- the store that is merged is refused so
     refused_there : (r : Recovering D) → r.geometry ≡ g → map a.now r.areas ≡ map a.now areas → Refuses (store_of r.geometry (map a.now r.areas)) fault
     refused_there r same_geometry same =
-        subst (λ (s : Store). Refuses s fault) (ap₂ (λ (h : Geometry) (l : List (List ℕ)). store_of h l) (sym same_geometry) (sym same)) refused
+        subst (λ (s : StoreText). Refuses s fault) (ap₂ (λ (h : Geometry) (l : List (List ℕ)). store_of h l) (sym same_geometry) (sym same)) refused
 
     -- the merge is no step
     merge_refuses : (r : Recovering D) (reply : Reply) → r.geometry ≡ g → map a.now r.areas ≡ map a.now areas → AnswersMerge (store_of r.geometry (map a.now r.areas)) reply
@@ -58,7 +58,7 @@ module _ {D : Type 0} (a : Ghosts D) (g : Geometry) (areas : List D) (fault : Me
     is_merge r = same_or_not (r.steps + 1) (first_steps r.geometry)
 
     -- so it is at the merge, and before it a device may fail
-    refuses_at : (r : Recovering D) (reply : Reply) (new : Phase D a) → r.geometry ≡ g → AreHonest a r.areas → map a.now r.areas ≡ map a.now areas → r.steps + 1 ≤ first_steps g
+    refuses_at : (r : Recovering D) (reply : Reply) (new : WorldPhase D a) → r.geometry ≡ g → AreHonest a r.areas → map a.now r.areas ≡ map a.now areas → r.steps + 1 ≤ first_steps g
         → AnswersRecovery a r reply new → (IsStepped reply → ⊥) → (reply ≡ Refused (merge_refusal fault)) ⊎ (reply ≡ Refused DeviceFault)
     refuses_at r reply new same_geometry honest same before answers over =
         let within : r.steps + 1 ≤ first_steps r.geometry = subst (λ (h : Geometry). r.steps + 1 ≤ first_steps h) (sym same_geometry) before in
@@ -73,12 +73,12 @@ module _ {D : Type 0} (a : Ghosts D) (g : Geometry) (areas : List D) (fault : Me
           ]
         ]
 
-    pub ends_refused : (old new : Phase D a) (reply : Reply) → IsBefore old → RecoversDown a old reply new → (IsStepped reply → ⊥)
+    pub ends_refused : (old new : WorldPhase D a) (reply : Reply) → IsBefore old → RecoversDown a old reply new → (IsStepped reply → ⊥)
         → (reply ≡ Refused (merge_refusal fault)) ⊎ (reply ≡ Refused DeviceFault)
     ends_refused old new reply at recovers over =
         refuses_at at.r reply new at.geometry at.honest at.same at.before (recovers at.r at.down) over
 
-    pub next_before : (old new : Phase D a) (steps : ℕ) → IsBefore old → RecoversDown a old (Stepped steps) new → IsBefore new
+    pub next_before : (old new : WorldPhase D a) (steps : ℕ) → IsBefore old → RecoversDown a old (Stepped steps) new → IsBefore new
     next_before old new steps at recovers =
         let r = at.r in
         let answers = recovers r at.down in

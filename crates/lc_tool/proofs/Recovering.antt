@@ -17,8 +17,8 @@ use Rattle.lc_core.specs.Lives.{FitsLife, Life, StillLives, Told}
 use Rattle.lc_core.specs.Numbers.{Numbers}
 use Rattle.lc_core.specs.Recovers.{RecoversDown, RefusesAtOnce}
 use Rattle.lc_core.specs.World.{AsksIn, FitsWorld, FollowsAnyhow, FollowsWorld}
-use Rattle.lc_core.specs.declared.phase.Phase.{Phase}
-use Rattle.lc_core.specs.declared.phase.Phase.TheVariants.{Down, Up, Taken}
+use Rattle.lc_core.specs.declared.world_phase.WorldPhase.{WorldPhase}
+use Rattle.lc_core.specs.declared.world_phase.WorldPhase.TheVariants.{Down, Up, Taken}
 use Rattle.lc_core.specs.declared.world.World.{World}
 use Rattle.lc_core.proofs.Asking.{asks_world}
 use Rattle.lc_core.proofs.Living.{one_lives}
@@ -49,22 +49,22 @@ module _ {D : Type 0} (a : Ghosts D) where
   first_gone w = record {
     comes = λ m s x fits. first_comes a (FitsWorld a) RecoverStep m s x w fits;
     count = λ r is. omega arith;
-    before = λ fault refused. subst (λ (p : Phase D a). IsBefore a refused.geometry refused.areas fault p) (sym refused.down) (first_before a refused.geometry refused.areas fault refused.honest);
+    before = λ fault refused. subst (λ (p : WorldPhase D a). IsBefore a refused.geometry refused.areas fault p) (sym refused.down) (first_before a refused.geometry refused.areas fault refused.honest);
     still = λ g at fits. fits;
   }
 
   -- what answers with a step is down
-  down_there : (phase : Phase D a) (steps : ℕ) (new : Phase D a) → RefusesAtOnce a phase RecoverStep (Stepped steps) new → (r : Recovering D) × (phase ≡ Down r)
+  down_there : (phase : WorldPhase D a) (steps : ℕ) (new : WorldPhase D a) → RefusesAtOnce a phase RecoverStep (Stepped steps) new → (r : Recovering D) × (phase ≡ Down r)
   down_there (Down r) steps new at_once = (r, refl)
   down_there (Up up) steps new at_once = let bad = (at_once OutOfTurn refl).0 in absurd cc
   down_there Taken steps new at_once = let bad = (at_once OutOfTurn refl).0 in absurd cc
 
   -- and stays so
-  stays_down : (old new : Phase D a) (steps : ℕ) (r : Recovering D) → old ≡ Down r → (later : Recovering D) × (new ≡ Down later) × (later.geometry ≡ r.geometry) × (later.steps ≡ steps) → StillLives a old new
+  stays_down : (old new : WorldPhase D a) (steps : ℕ) (r : Recovering D) → old ≡ Down r → (later : Recovering D) × (new ≡ Down later) × (later.geometry ≡ r.geometry) × (later.steps ≡ steps) → StillLives a old new
   stays_down old new steps r is later g None fits =
-      let same : r.geometry ≡ g = subst (λ (p : Phase D a). FitsLife a g None p) is fits in
-      subst (λ (p : Phase D a). FitsLife a g None p) (sym later.1) (later.2 ∙ same)
-  stays_down old new steps r is later g (Some life) fits = absurd (subst (λ (p : Phase D a). FitsLife a g (Some life) p) is fits)
+      let same : r.geometry ≡ g = subst (λ (p : WorldPhase D a). FitsLife a g None p) is fits in
+      subst (λ (p : WorldPhase D a). FitsLife a g None p) (sym later.1) (later.2 ∙ same)
+  stays_down old new steps r is later g (Some life) fits = absurd (subst (λ (p : WorldPhase D a). FitsLife a g (Some life) p) is fits)
 
   pub more_gone : (old mid new : World D a) (done steps : ℕ) → HasGone old mid done → FollowsWorld a mid RecoverStep (Stepped steps) new → RecoversDown a mid.phase (Stepped steps) new.phase
       → RefusesAtOnce a mid.phase RecoverStep (Stepped steps) new.phase → HasGone old new (done + 1)

@@ -14,7 +14,7 @@ use Rattle.lc_core.specs.declared.world.World.{World}
 use Rattle.lc_text.specs.Line.{asked, command_of, is_skipped, line_of, words}
 use Rattle.lc_text.specs.declared.command.Command.{Command}
 use Rattle.lc_text.specs.declared.command.Line.TheVariants.{Skipped as IsSkipped, Command as Commanded}
-use Rattle.lc_tool.specs.Script.{Front, Going, GoesOn, Rest, Runs, RunsLine}
+use Rattle.lc_tool.specs.Script.{Front, Going, GoesOn, RestOfScript, Runs, RunsLine}
 use Rattle.lc_look.specs.Printed.{Adds}
 use Rattle.lc_tool.specs.Tells.{Living, TellsFronted, TellsOne}
 use Rattle.lc_tool.specs.Outcome.{GoesBehind, LeavesFronted, LeavesLine, Passes, Breaks, fronted}
@@ -52,14 +52,14 @@ fronted_kept a front old new line number held mid holds (Ends status) keeps leav
 )
 
 -- after the text of a command that lets the script go on
-pub goes_on : (next : Rest) (refused : Bool) (verdict : Verdict) (was : Bool) (shown rest : List ℕ) (status : ℕ) → GoesBehind verdict was
+pub goes_on : (next : RestOfScript) (refused : Bool) (verdict : Verdict) (was : Bool) (shown rest : List ℕ) (status : ℕ) → GoesBehind verdict was
     → next (refused || was) rest status → GoesOn next refused shown verdict (shown ++ rest) status
 goes_on next refused Done was shown rest status goes run = (rest, refl, subst (λ (b : Bool). next b rest status) (ap (λ (b : Bool). refused || b) goes ∙ or-false refused) run)
 goes_on next refused Refused was shown rest status goes run = (rest, refl, subst (λ (b : Bool). next b rest status) (ap (λ (b : Bool). refused || b) goes ∙ or-true refused) run)
 goes_on next refused Faulted was shown rest status goes run = absurd goes
 
 -- nothing printed, and nothing refused
-skips : (next : Rest) (refused was : Bool) (shown rest : List ℕ) (status : ℕ) → shown ≡ [] → was ≡ false → next (refused || was) rest status → next refused (shown ++ rest) status
+skips : (next : RestOfScript) (refused was : Bool) (shown rest : List ℕ) (status : ℕ) → shown ≡ [] → was ≡ false → next (refused || was) rest status → next refused (shown ++ rest) status
 skips next refused was shown rest status none not run =
     let here = subst (λ (b : Bool). next b rest status) (ap (λ (b : Bool). refused || b) not ∙ or-false refused) run in
     subst (λ (t : List ℕ). next refused t status) (sym (ap (λ (l : List ℕ). l ++ rest) none)) here

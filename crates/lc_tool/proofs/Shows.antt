@@ -14,8 +14,8 @@ use Rattle.lc_core.specs.Observed.{has_page}
 use Rattle.lc_core.specs.Showing.{ShowsPage, image_of, page_of}
 use Rattle.lc_core.proofs.PageSeen.{page_refusal as refusal_in}
 use Rattle.lc_core.specs.World.{FitsPhase, FitsUp, FitsWorld}
-use Rattle.lc_core.specs.declared.phase.Phase.{Phase}
-use Rattle.lc_core.specs.declared.phase.Phase.TheVariants.{Down, Up, Taken}
+use Rattle.lc_core.specs.declared.world_phase.WorldPhase.{WorldPhase}
+use Rattle.lc_core.specs.declared.world_phase.WorldPhase.TheVariants.{Down, Up, Taken}
 use Rattle.lc_core.specs.declared.up.Up.{Up as Rising}
 use Rattle.lc_core.specs.declared.world.World.{World}
 use Rattle.lc_tool.specs.Fits.{IsUpBeside, Performs}
@@ -47,14 +47,14 @@ module _ {D : Type 0} (a : Ghosts D) where
       (ap (λ (g : Geometry). if has_page g node segment page then None else Some Unknown) (sym fits.running.geometry_is)
       ∙ known_or (is_node m.geometry node && is_segment m.geometry segment && is_page m.geometry page))
 
-  pub refuses_page : (phase : Phase D a) (m : Setting) (s : State) (x : Numbers) (node segment page : ℕ) → FitsPhase a m phase s x
+  pub refuses_page : (phase : WorldPhase D a) (m : Setting) (s : State) (x : Numbers) (node segment page : ℕ) → FitsPhase a m phase s x
       → refusal_in a phase node segment page ≡ page_refusal m s node segment page
   refuses_page (Down r) m s x node segment page fits = rw (down_fits a r m s x fits) refl
   refuses_page (Up up) m s x node segment page fits = up_refuses up m s x node segment page fits.0
   refuses_page Taken m s x node segment page fits = absurd fits
 
   beside_refuses : (w : World D a) (m : Setting) (s : State) (x : Numbers) (node segment page : ℕ) → IsUpBeside a m w s x → refusal_in a w.phase node segment page ≡ page_refusal m s node segment page
-  beside_refuses w m s x node segment page beside = ap (λ (p : Phase D a). refusal_in a p node segment page) beside.1 ∙ up_refuses beside.0 m s x node segment page beside.2
+  beside_refuses w m s x node segment page beside = ap (λ (p : WorldPhase D a). refusal_in a p node segment page) beside.1 ∙ up_refuses beside.0 m s x node segment page beside.2
 
   module _ (w : World D a) (node segment page : ℕ) (held holds : Option (List ℕ)) (verdict : Verdict) where
     -- a refusal
@@ -70,7 +70,7 @@ module _ {D : Type 0} (a : Ghosts D) where
       pub page_refused : Performs a (FitsWorld a) w (Show node segment page) held holds verdict w
       page_refused = refused_by (FitsWorld a) (λ m s x fits. refuses_page w.phase m s x node segment page fits) refusal is by shown
 
-      down_refused : (g : Geometry) (phase : Phase D a) → FitsLife a g None phase → refusal_in a phase node segment page ≡ Some refusal → TellsRefusal IsDown (refusal_text refusal) verdict
+      down_refused : (g : Geometry) (phase : WorldPhase D a) → FitsLife a g None phase → refusal_in a phase node segment page ≡ Some refusal → TellsRefusal IsDown (refusal_text refusal) verdict
       down_refused g (Down r) fits some = (let same : IsDown ≡ refusal = same_some IsDown refusal some in (ap refusal_text (sym same), by ∙ ap verdict_on (sym same)))
       down_refused g (Up up) fits some = absurd fits
       down_refused g Taken fits some = absurd fits
@@ -91,7 +91,7 @@ module _ {D : Type 0} (a : Ghosts D) where
     pub page_shows : ShowsPage a w node segment page bytes → Performs a (FitsWorld a) w (Show node segment page) held holds Done w
     page_shows shows = shown_by (FitsWorld a) (λ m s x fits. refuses_page w.phase m s x node segment page fits) shows
 
-    not_down : (g : Geometry) (phase : Phase D a) → FitsLife a g None phase → refusal_in a phase node segment page ≡ None → ⊥
+    not_down : (g : Geometry) (phase : WorldPhase D a) → FitsLife a g None phase → refusal_in a phase node segment page ≡ None → ⊥
     not_down g (Down r) fits is = absurd cc
     not_down g (Up up) fits is = fits
     not_down g Taken fits is = fits

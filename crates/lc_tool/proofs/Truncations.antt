@@ -16,9 +16,9 @@ use Rattle.lc_core.specs.Numbers.{Numbers}
 use Rattle.lc_core.specs.Truncating as core
 use Rattle.lc_core.specs.Truncating.{StepsTo, ending, refusal_in, sizes_of, stopping}
 use Rattle.lc_core.specs.World.{FitsPhase, FitsWorld}
-use Rattle.lc_core.specs.declared.node.Node.{Node}
-use Rattle.lc_core.specs.declared.phase.Phase.{Phase}
-use Rattle.lc_core.specs.declared.phase.Phase.TheVariants.{Down, Up, Taken}
+use Rattle.lc_core.specs.declared.node_state.NodeState.{NodeState}
+use Rattle.lc_core.specs.declared.world_phase.WorldPhase.{WorldPhase}
+use Rattle.lc_core.specs.declared.world_phase.WorldPhase.TheVariants.{Down, Up, Taken}
 use Rattle.lc_core.specs.declared.world.World.{World}
 use Rattle.std.specs.Io.KnownBytes.{Appends}
 use Rattle.lc_core.specs.Rounds.{ShowsRound, round_at, round_in}
@@ -48,9 +48,9 @@ module _ {D : Type 0} (a : Ghosts D) where
   world_due : (w : World D a) (m : Setting) (s : State) (x : Numbers) → IsUpBeside a m w s x → (node k page : ℕ) → k < m.geometry.segments → page < m.geometry.pages
       → core.is_due a w.phase node (k + 1) page ≡ is_due_then s x node (k + 1) page
   world_due w m s x beside node k page inside within =
-      ap (λ (p : Phase D a). core.is_due a p node (k + 1) page) beside.1 ∙ up_due a m s x beside.0 beside.2 node k page inside within
+      ap (λ (p : WorldPhase D a). core.is_due a p node (k + 1) page) beside.1 ∙ up_due a m s x beside.0 beside.2 node k page inside within
 
-  stands_up : (w : World D a) (phase : Phase D a) (m : Setting) (s : State) (x : Numbers) → w.phase ≡ phase → FitsPhase a m phase s x → s.phase ≡ IsUp → IsUpBeside a m w s x
+  stands_up : (w : World D a) (phase : WorldPhase D a) (m : Setting) (s : State) (x : Numbers) → w.phase ≡ phase → FitsPhase a m phase s x → s.phase ≡ IsUp → IsUpBeside a m w s x
   stands_up w (Up up) m s x is fits stands = (up, is, fits.0)
   stands_up w (Down r) m s x is fits stands = absurd (let both : IsUp ≡ DownAt fits.cut = sym stands ∙ fits.down in cc)
   stands_up w Taken m s x is fits stands = absurd fits
@@ -135,7 +135,7 @@ module _ {D : Type 0} (a : Ghosts D) (Fits : Setting → World D a → State →
     sizes_are : (w : World D a) (s : State) (x : Numbers) → Fits m w s x → s.phase ≡ IsUp → sizes_of a w.phase ≡ (m.geometry.segments, m.geometry.pages)
     sizes_are w s x fits stands =
         let beside = followed.stands w m s x fits stands in
-        ap (λ (p : Phase D a). sizes_of a p) beside.1 ∙ ap (λ (g : Geometry). (g.segments, g.pages)) (sym beside.2.running.geometry_is)
+        ap (λ (p : WorldPhase D a). sizes_of a p) beside.1 ∙ ap (λ (g : Geometry). (g.segments, g.pages)) (sym beside.2.running.geometry_is)
 
     cleans_led : (old new : World D a) (reply : Reply) → core.Cleans a node old reply new → (s : State) (x : Numbers) → Fits m old s x → s.phase ≡ IsUp
         → Led (λ after next. Cleans m node s x reply after next) new
@@ -151,7 +151,7 @@ module _ {D : Type 0} (a : Ghosts D) (Fits : Setting → World D a → State →
         → core.IsBlocked a w.phase node (k + 1) page ↔ (is_blocked_then s x node (k + 1) page ≡ true)
     blocked_there w s x fits stands awake k page inside within =
         let beside = followed.stands w m s x fits stands in
-        subst (λ (p : Phase D a). core.IsBlocked a p node (k + 1) page ↔ (is_blocked_then s x node (k + 1) page ≡ true)) (sym beside.1) (up_blocked a m s x beside.0 beside.2 node k page inside within awake)
+        subst (λ (p : WorldPhase D a). core.IsBlocked a p node (k + 1) page ↔ (is_blocked_then s x node (k + 1) page ≡ true)) (sym beside.1) (up_blocked a m s x beside.0 beside.2 node k page inside within awake)
 
     blocked_to : (old : World D a) (s : State) (x : Numbers) → Fits m old s x → s.phase ≡ IsUp → s.halted node ≡ false → core.HasBlocked a old.phase node (sizes_of a old.phase) → HasBlocked m node s x
     blocked_to old s x fits stands awake has =
@@ -219,7 +219,7 @@ module _ {D : Type 0} (a : Ghosts D) where
   up_round : (w : World D a) (node round : ℕ) → round ≡ round_in a w.phase node → (m : Setting) (s : State) (x : Numbers) → IsUpBeside a m w s x → is_node m.geometry node ≡ true → round ≡ x.round node
   up_round w node round stands m s x beside known =
       let its = known_node a beside.0 m s x node beside.2.running (ltb-true node m.geometry.nodes known) in
-      stands ∙ ap (λ (p : Phase D a). round_in a p node) beside.1 ∙ ap (λ (o : Option (Node D a)). round_at a o) its.1 ∙ its.2.round
+      stands ∙ ap (λ (p : WorldPhase D a). round_in a p node) beside.1 ∙ ap (λ (o : Option (NodeState D a)). round_at a o) its.1 ∙ its.2.round
 
   -- One that is down
 

@@ -15,7 +15,7 @@ use Rattle.lc_recover.specs.Recovery.{begun}
 use Rattle.lc_core.specs.Lives.{AnswersOne, FitsLife, Life}
 use Rattle.lc_core.specs.Numbers.{Numbers}
 use Rattle.lc_core.specs.World.{FitsUp, FitsWorld, LeadsTo}
-use Rattle.lc_core.specs.declared.phase.Phase.TheVariants.{Down, Up}
+use Rattle.lc_core.specs.declared.world_phase.WorldPhase.TheVariants.{Down, Up}
 use Rattle.lc_core.specs.declared.up.Up.{Up as UpStore}
 use Rattle.lc_core.specs.declared.world.World.{World}
 use Rattle.lc_tool.specs.Answers.{Answers, Ends, Finishes, IsStepped}

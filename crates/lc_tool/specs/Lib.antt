@@ -18,6 +18,6 @@ pub mod Files
 pub mod Found
 pub mod CheckedJson
 pub mod Copied
-pub mod View
+pub mod StoreReport
 pub mod Asked
 pub mod Noted

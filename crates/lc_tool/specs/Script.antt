@@ -20,15 +20,15 @@ use Rattle.lc_tool.specs.declared.verdict.Verdict.{Verdict}
 use Rattle.lc_tool.specs.declared.verdict.Verdict.TheVariants.{Done, Refused, Faulted}
 
 -- what the later lines print: whether something was refused before, and the text and the status then
-abbrev pub Rest : Type 1
-Rest = Bool → List ℕ → ℕ → Type 0
+abbrev pub RestOfScript : Type 1
+RestOfScript = Bool → List ℕ → ℕ → Type 0
 
 -- the same from a state and numbers on
 abbrev pub Going : Type 1
-Going = State → Numbers → Rest
+Going = State → Numbers → RestOfScript
 
 -- after the text of a command: where a device has failed nothing more is done
-abbrev pub GoesOn : Rest → Bool → List ℕ → Verdict → List ℕ → ℕ → Type 0
+abbrev pub GoesOn : RestOfScript → Bool → List ℕ → Verdict → List ℕ → ℕ → Type 0
 GoesOn next refused shown Done text status = (rest : List ℕ) × (text ≡ shown ++ rest) × next refused rest status
 GoesOn next refused shown Refused text status = (rest : List ℕ) × (text ≡ shown ++ rest) × next true rest status
 GoesOn next refused shown Faulted text status = (text ≡ shown) × (status ≡ 3)

@@ -22,7 +22,7 @@ use Rattle.lc_tool.specs.Answers.{IsStepped}
 use Rattle.lc_tool.specs.Outcome.{EndsWith, GoesBehind}
 use Rattle.lc_text.specs.Lines.{script_lines}
 use Rattle.lc_tool.specs.Following.{lines_followed}
-use Rattle.lc_tool.specs.Script.{Front, Given, GoesOn, Rest, front_of}
+use Rattle.lc_tool.specs.Script.{Front, Given, GoesOn, RestOfScript, front_of}
 use Rattle.lc_look.specs.Printed.{NoMemory, Adds}
 use Rattle.lc_tool.specs.Session.{Does, Says}
 use Rattle.lc_text.specs.Text.{no_memory_text, not_understood_text, records_text, refusal_text, too_long_text, words_text}
@@ -112,7 +112,7 @@ TellsFronted front g at line number text outcome after =
 
 -- what the later lines print over a store that stands so
 abbrev pub Living : Type 1
-Living = Option Life → Rest
+Living = Option Life → RestOfScript
 
 module _ (front : Front) where
   -- by what the line of this number says: `next` is the same of the later lines

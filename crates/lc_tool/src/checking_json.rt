@@ -7,7 +7,7 @@ ghost use Rattle.lc_tool.specs.CheckedJson.{TellsCheck, TellsJson, TellsUnlooked
 
 use crate::WriteFault;
 use crate::looking::{check_store, taken_of};
-use crate::view::View;
+use crate::store_report::StoreReport;
 use lc_files::{FolderFault, Look, Misfit, SharedFile, StoreFolder, Unopened};
 use lc_look::{check_areas_json, ended, refuse_json};
 use lc_record::Geometry;
@@ -101,7 +101,7 @@ where
     ensures tells { IfOk result (λ status. Adds (TellsJson size.now) (W.contents writer.old) (W.contents writer.new) status) }
 {
     write_found(writer, found)?;
-    match taken_of(View::Check(*size), found) {
+    match taken_of(StoreReport::Check(*size), found) {
         Ok(geometry) => show_files(alloc, folder, &geometry, writer),
         Err(status) => ended(write_unsized(writer), status),
     }

@@ -24,11 +24,11 @@ mod size_hint;
 mod sizing;
 mod source;
 mod stop;
+mod store_report;
 mod stores;
 mod telling;
 mod truncating;
 mod verdict;
-mod view;
 
 pub use answering::answer;
 pub use checking_json::check_store_json;

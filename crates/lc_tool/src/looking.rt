@@ -3,11 +3,11 @@ ghost use Rattle.std.specs.Prelude.{◌≡◌, IfErr, IfOk, OnOk};
 ghost use Rattle.std.specs.Io.KnownBytes.{Appends};
 ghost use Rattle.lc_look.specs.Printed.{Adds};
 ghost use Rattle.lc_tool.specs.Found.{TellsChecked, TellsDrawn, TellsDumped, size_text};
-ghost use Rattle.lc_tool.specs.View.{HasNoSize, ShowsView, TakesSize, TellsView, front_text};
+ghost use Rattle.lc_tool.specs.StoreReport.{HasNoSize, ShowsView, TakesSize, TellsView, front_text};
 
 use crate::WriteFault;
 use crate::making::{not_opened, stopped};
-use crate::view::View;
+use crate::store_report::StoreReport;
 use lc_disk::Area;
 use lc_files::{Look, Misfit, SharedFile, StoreFolder, write_misfit};
 use lc_look::{NOT_UNDERSTOOD, REFUSED, check_areas, draw_areas, dump_areas};
@@ -32,7 +32,7 @@ where
     R::File: SharedFile,
     ensures tells { IfOk result (λ status. Adds (TellsChecked size.now) (W.contents writer.old) (W.contents writer.new) status) }
 {
-    look_at(alloc, rt, folder, View::Check(*size), writer)
+    look_at(alloc, rt, folder, StoreReport::Check(*size), writer)
 }
 
 /// Prints a page of the store in a folder as it would be after a recovery, and its two slots as they are, as
@@ -51,7 +51,13 @@ where
     R::File: SharedFile,
     ensures tells { IfOk result (λ status. Adds (TellsDumped segment page) (W.contents writer.old) (W.contents writer.new) status) }
 {
-    look_at(alloc, rt, folder, View::Dump { segment, page }, writer)
+    look_at(
+        alloc,
+        rt,
+        folder,
+        StoreReport::Dump { segment, page },
+        writer,
+    )
 }
 
 /// Prints the picture of the store in a folder, as `draw_areas` over the areas of its files, which tell its size. The folder's
@@ -67,7 +73,7 @@ where
     R::File: SharedFile,
     ensures tells { IfOk result (λ status. Adds TellsDrawn (W.contents writer.old) (W.contents writer.new) status) }
 {
-    look_at(alloc, rt, folder, View::Draw, writer)
+    look_at(alloc, rt, folder, StoreReport::Draw, writer)
 }
 
 // Shows the view of the store in a folder, and says on standard error what failed.
@@ -75,7 +81,7 @@ fn look_at<R: Files + Eprint, W: Write>(
     alloc: Global,
     rt: &R,
     folder: &str,
-    view: View,
+    view: StoreReport,
     writer: &mut W,
 ) -> Result<u8, WriteFault>
 where
@@ -92,7 +98,7 @@ where
 fn look_in<R: Files, W: Write>(
     alloc: Global,
     folder: &StoreFolder<'_, R>,
-    view: View,
+    view: StoreReport,
     writer: &mut W,
 ) -> Result<u8, WriteFault>
 where
@@ -115,7 +121,7 @@ where
 fn show_store<R: Files, W: Write>(
     alloc: Global,
     folder: &StoreFolder<'_, R>,
-    view: View,
+    view: StoreReport,
     found: Result<Geometry, Misfit>,
     writer: &mut W,
 ) -> Result<u8, WriteFault>
@@ -133,15 +139,15 @@ where
 // Writes what does not fit, or, in front of a check, the size that files tell.
 fn write_front<W: Write>(
     writer: &mut W,
-    view: View,
+    view: StoreReport,
     found: &Result<Geometry, Misfit>,
 ) -> io::Result<()>
     ensures { OnOk result (Appends (W.contents writer.old) (W.contents writer.new) (front_text found.now view)) }
 {
     match found {
         Ok(geometry) => match view {
-            View::Check(_) => write_size(writer, geometry),
-            View::Dump { .. } | View::Draw => Ok(()),
+            StoreReport::Check(_) => write_size(writer, geometry),
+            StoreReport::Dump { .. } | StoreReport::Draw => Ok(()),
         },
         Err(misfit) => write_misfit(writer, *misfit),
     }
@@ -162,20 +168,20 @@ fn write_size<W: Write>(writer: &mut W, geometry: &Geometry) -> io::Result<()>
 }
 
 // The size that a store is taken to have whose files tell this, or the status where it is of none.
-pub(crate) fn taken_of(view: View, found: &Result<Geometry, Misfit>) -> Result<Geometry, u8>
+pub(crate) fn taken_of(view: StoreReport, found: &Result<Geometry, Misfit>) -> Result<Geometry, u8>
     ensures taken { IfOk result (TakesSize view found.now) }
     ensures none { IfErr result (HasNoSize view found.now) }
 {
     match view {
-        View::Check(Size::Given(geometry)) => Ok(geometry),
-        View::Check(Size::AsFound(wanted)) => match found {
+        StoreReport::Check(Size::Given(geometry)) => Ok(geometry),
+        StoreReport::Check(Size::AsFound(wanted)) => match found {
             Ok(found) => match wanted.over(found) {
                 Some(geometry) => Ok(geometry),
                 None => Err(NOT_UNDERSTOOD),
             },
             Err(_) => Err(REFUSED),
         },
-        View::Dump { .. } | View::Draw => match found {
+        StoreReport::Dump { .. } | StoreReport::Draw => match found {
             Ok(geometry) => Ok(*geometry),
             Err(_) => Err(REFUSED),
         },
@@ -186,7 +192,7 @@ pub(crate) fn taken_of(view: View, found: &Result<Geometry, Misfit>) -> Result<G
 fn show_files<R: Files, W: Write>(
     alloc: Global,
     folder: &StoreFolder<'_, R>,
-    view: View,
+    view: StoreReport,
     geometry: &Geometry,
     writer: &mut W,
 ) -> Result<u8, WriteFault>
@@ -203,7 +209,7 @@ where
 // The view of these areas.
 fn show_areas<D: Area, W: Write>(
     alloc: Global,
-    view: View,
+    view: StoreReport,
     geometry: &Geometry,
     areas: &mut [D],
     writer: &mut W,
@@ -211,8 +217,10 @@ fn show_areas<D: Area, W: Write>(
     ensures tells { IfOk result (λ status. Adds (ShowsView view geometry.now) (W.contents writer.old) (W.contents writer.new) status) }
 {
     match view {
-        View::Check(_) => check_areas(alloc, geometry, areas, writer),
-        View::Dump { segment, page } => dump_areas(alloc, geometry, areas, segment, page, writer),
-        View::Draw => draw_areas(alloc, geometry, areas, writer),
+        StoreReport::Check(_) => check_areas(alloc, geometry, areas, writer),
+        StoreReport::Dump { segment, page } => dump_areas(
+            alloc, geometry, areas, segment, page, writer,
+        ),
+        StoreReport::Draw => draw_areas(alloc, geometry, areas, writer),
     }
 }

@@ -13,7 +13,7 @@ use Rattle.lc_model.proofs.Fronts.{entry}
 use Rattle.lc_model.proofs.Keeps.{transactions-push}
 use Rattle.lc_model.proofs.Merging.{records_from-append}
 use Rattle.lc_model.proofs.RecordBytes.{record-number}
-use Rattle.lc_page.specs.declared.entry.Entry.{Entry}
+use Rattle.lc_page.specs.declared.page_entry.PageEntry.{PageEntry}
 use Rattle.lc_page.specs.PageVector.{entry_at, no_entry, settled, is_dirty}
 use Rattle.lc_token.specs.Token.{IsReached}
 use Rattle.lc_model.specs.State.{State, Setting}
@@ -43,7 +43,7 @@ below-max a b (suc n) within =
     ]
 
 -- the number that the pages have reached is clean
-reached-clean : (m : Setting) (s : State) (d : Disks) (segment seq reached : ℕ) (pages : List Entry) (r : Record) → length pages ≡ m.geometry.pages → m.geometry.pages ≤ 2 ^ 32 → ((page : ℕ) (text : Page) → page < m.geometry.pages → Shows d segment page text → (entry_at pages page).stable ≤ text.sequence) → ((page : ℕ) → page < m.geometry.pages → (entry_at pages page).stable ≤ seq) → IsTouched m.geometry segment seq pages r → IsReached seq pages reached → IsCleanTo m.geometry d segment reached r
+reached-clean : (m : Setting) (s : State) (d : Disks) (segment seq reached : ℕ) (pages : List PageEntry) (r : Record) → length pages ≡ m.geometry.pages → m.geometry.pages ≤ 2 ^ 32 → ((page : ℕ) (text : Page) → page < m.geometry.pages → Shows d segment page text → (entry_at pages page).stable ≤ text.sequence) → ((page : ℕ) → page < m.geometry.pages → (entry_at pages page).stable ≤ seq) → IsTouched m.geometry segment seq pages r → IsReached seq pages reached → IsCleanTo m.geometry d segment reached r
 reached-clean m s d segment seq reached pages r count few stable within touched is_reached = λ number_in_reached page text known has shows.
     let in_list : page < length pages = omega (arith, known, count) in
     let small : page < 2 ^ 32 = omega (arith, known, few) in
@@ -70,18 +70,18 @@ reached-clean m s d segment seq reached pages r count few stable within touched 
     ] refl
 
 -- the end of a page write keeps what the token says, with a greater clean number
-pub token-written : (m : Setting) (s : State) (d : Disks) (segment seq clean page reached : ℕ) (text : Page) (pages : List Entry) → TokenFits m s d segment seq clean pages → page < m.geometry.pages → d.opened segment page ≡ Some text → text.sequence ≤ seq → IsReached seq (slice_set pages page (settled (entry_at pages page) text.sequence)) reached → TokenFits m s (with_settled d segment page text) segment seq (max clean reached) (slice_set pages page (settled (entry_at pages page) text.sequence))
+pub token-written : (m : Setting) (s : State) (d : Disks) (segment seq clean page reached : ℕ) (text : Page) (pages : List PageEntry) → TokenFits m s d segment seq clean pages → page < m.geometry.pages → d.opened segment page ≡ Some text → text.sequence ≤ seq → IsReached seq (slice_set pages page (settled (entry_at pages page) text.sequence)) reached → TokenFits m s (with_settled d segment page text) segment seq (max clean reached) (slice_set pages page (settled (entry_at pages page) text.sequence))
 token-written m s d segment seq clean page reached text pages fits known is newest is_reached =
-    let after : List Entry = slice_set pages page (settled (entry_at pages page) text.sequence) in
+    let after : List PageEntry = slice_set pages page (settled (entry_at pages page) text.sequence) in
     let in_list : page < length pages = (let count : length pages ≡ m.geometry.pages = fits.count in omega (arith, known, count)) in
     let own : entry_at (slice_set pages page (settled (entry_at pages page) text.sequence)) page ≡ settled (entry_at pages page) text.sequence = get_or-set_same pages page (settled (entry_at pages page) text.sequence) no_entry in_list in
     let other : (p : ℕ) → p ≢ page → entry_at (slice_set pages page (settled (entry_at pages page) text.sequence)) p ≡ entry_at pages p = λ p differ. get_or-set_other pages page p (settled (entry_at pages page) text.sequence) no_entry differ in
     let count : length (slice_set pages page (settled (entry_at pages page) text.sequence)) ≡ m.geometry.pages = length-set pages page (settled (entry_at pages page) text.sequence) ∙ fits.count in
     let back : (x y : ℕ) (z : Page) → Shows (with_settled d segment page text) x y z → Shows d x y z = shows-settled d segment page text is in
-    let case : (P : Entry → ℕ → Type 0) → P (settled (entry_at pages page) text.sequence) page → ((p : ℕ) → p ≢ page → P (entry_at pages p) p) → (p : ℕ) → P (entry_at (slice_set pages page (settled (entry_at pages page) text.sequence)) p) p =
+    let case : (P : PageEntry → ℕ → Type 0) → P (settled (entry_at pages page) text.sequence) page → ((p : ℕ) → p ≢ page → P (entry_at pages p) p) → (p : ℕ) → P (entry_at (slice_set pages page (settled (entry_at pages page) text.sequence)) p) p =
     λ P at_own at_other p. elim (p == page) as (λ b. (p == page) ≡ b → P (entry_at (slice_set pages page (settled (entry_at pages page) text.sequence)) p) p) [
-      | true ↦ λ e. subst (λ (n : ℕ). P (entry_at (slice_set pages page (settled (entry_at pages page) text.sequence)) n) n) (sym (eqb-true p page e)) (subst (λ (x : Entry). P x page) (sym own) at_own)
-      | false ↦ λ e. (let differ : p ≢ page = λ same. true≢false (sym (eq-eqb p page same) ∙ e) in subst (λ (x : Entry). P x p) (sym (other p differ)) (at_other p differ))
+      | true ↦ λ e. subst (λ (n : ℕ). P (entry_at (slice_set pages page (settled (entry_at pages page) text.sequence)) n) n) (sym (eqb-true p page e)) (subst (λ (x : PageEntry). P x page) (sym own) at_own)
+      | false ↦ λ e. (let differ : p ≢ page = λ same. true≢false (sym (eq-eqb p page same) ∙ e) in subst (λ (x : PageEntry). P x p) (sym (other p differ)) (at_other p differ))
     ] refl in
     let stable : (p : ℕ) (t : Page) → p < m.geometry.pages → Shows (with_settled d segment page text) segment p t → (entry_at (slice_set pages page (settled (entry_at pages page) text.sequence)) p).stable ≤ t.sequence =
     λ p. case (λ x n. (t : Page) → n < m.geometry.pages → Shows (with_settled d segment page text) segment n t → x.stable ≤ t.sequence)
@@ -116,7 +116,7 @@ clean-on_pages m s d clean r cleaned low = λ segment page offset text some last
 -- Other moves
 
 -- a reservation: its record is not counted yet
-pub token-appended : (m : Setting) (s : State) (d : Disks) (segment seq clean : ℕ) (pages : List Entry) (t : Transaction) → TokenFits m s d segment seq clean pages → seq ≤ counted_all d.numbers (transactions s.history) segment → clean ≤ seq → TokenFits m (appended s t) d segment seq clean pages
+pub token-appended : (m : Setting) (s : State) (d : Disks) (segment seq clean : ℕ) (pages : List PageEntry) (t : Transaction) → TokenFits m s d segment seq clean pages → seq ≤ counted_all d.numbers (transactions s.history) segment → clean ≤ seq → TokenFits m (appended s t) d segment seq clean pages
 token-appended m s d segment seq clean pages t fits low clean_low =
     let r : Record = record_of (counted_all d.numbers (transactions s.history)) (effects (transactions s.history) (base m s)) t in
     let all_are : all_of m (appended s t) d ≡ all_of m s d ++ record_of (counted_all d.numbers (transactions s.history)) (effects (transactions s.history) (base m s)) t ∷ [] =
@@ -141,7 +141,7 @@ token-appended m s d segment seq clean pages t fits low clean_low =
     }
 
 -- a record is closed: it is counted, and the pages of its bytes are touched under its number
-pub token-closed : (m : Setting) (s : State) (d : Disks) (segment seq clean : ℕ) (pages after : List Entry) (history : History) → TokenFits m s d segment seq clean pages → transactions history ≡ transactions s.history → length after ≡ length pages → ((page : ℕ) → ((entry_at after page).stable ≡ (entry_at pages page).stable) × ((entry_at pages page).touched ≤ (entry_at after page).touched)) → All (λ r. number_or_zero segment r.locks ≡ seq + 1 → (page : ℕ) → page < m.geometry.pages → HasByteOn m.geometry segment page r → seq + 1 ≤ (entry_at after page).touched) (all_of m s d) → TokenFits m (record s { history = history }) d segment (seq + 1) clean after
+pub token-closed : (m : Setting) (s : State) (d : Disks) (segment seq clean : ℕ) (pages after : List PageEntry) (history : History) → TokenFits m s d segment seq clean pages → transactions history ≡ transactions s.history → length after ≡ length pages → ((page : ℕ) → ((entry_at after page).stable ≡ (entry_at pages page).stable) × ((entry_at pages page).touched ≤ (entry_at after page).touched)) → All (λ r. number_or_zero segment r.locks ≡ seq + 1 → (page : ℕ) → page < m.geometry.pages → HasByteOn m.geometry segment page r → seq + 1 ≤ (entry_at after page).touched) (all_of m s d) → TokenFits m (record s { history = history }) d segment (seq + 1) clean after
 token-closed m s d segment seq clean pages after history fits same long kept touching =
     let all_are : all_of m s d ≡ records_from d.numbers (base m s) (transactions history) = ap (records_from d.numbers (base m s)) (sym same) in
     record {
@@ -164,7 +164,7 @@ token-closed m s d segment seq clean pages after history fits same long kept tou
     }
 
 -- a write of any page opens its slot
-pub token-opened : (m : Setting) (s : State) (d : Disks) (segment seq clean other page : ℕ) (text : Page) (pages : List Entry) → TokenFits m s d segment seq clean pages → (d.page other page).sequence ≤ text.sequence → TokenFits m s (with_opened d other page text) segment seq clean pages
+pub token-opened : (m : Setting) (s : State) (d : Disks) (segment seq clean other page : ℕ) (text : Page) (pages : List PageEntry) → TokenFits m s d segment seq clean pages → (d.page other page).sequence ≤ text.sequence → TokenFits m s (with_opened d other page text) segment seq clean pages
 token-opened m s d segment seq clean other page text pages fits newer =
     let least : (limit p : ℕ) (z : Page) → Shows (with_opened d other page text) segment p z → ((q : Page) → Shows d segment p q → limit ≤ q.sequence) → limit ≤ z.sequence =
     λ limit p z shows each. elim (shows-opened d other page text segment p z shows) [
@@ -185,7 +185,7 @@ token-opened m s d segment seq clean other page text pages fits newer =
     }
 
 -- nothing of the segment's pages changes, or fewer images show
-pub token-fewer : (m : Setting) (s : State) (d new : Disks) (segment seq clean : ℕ) (pages : List Entry) → TokenFits m s d segment seq clean pages → new.numbers ≡ d.numbers → ((page : ℕ) (text : Page) → Shows new segment page text → Shows d segment page text) → TokenFits m s new segment seq clean pages
+pub token-fewer : (m : Setting) (s : State) (d new : Disks) (segment seq clean : ℕ) (pages : List PageEntry) → TokenFits m s d segment seq clean pages → new.numbers ≡ d.numbers → ((page : ℕ) (text : Page) → Shows new segment page text → Shows d segment page text) → TokenFits m s new segment seq clean pages
 token-fewer m s d new segment seq clean pages fits same back =
     let all_are : all_of m s d ≡ all_of m s new = ap (λ numbers. records_from numbers (base m s) (transactions s.history)) (sym same) in
     record {
@@ -199,7 +199,7 @@ token-fewer m s d new segment seq clean pages fits same back =
     }
 
 -- what a reset asks of the records that stand in the log
-pub all-on_pages : (m : Setting) (s : State) (d : Disks) (node : ℕ) (seq clean : ℕ → ℕ) (pages : ℕ → List Entry) → Fits m s d → node < m.geometry.nodes → ((segment : ℕ) → 1 ≤ segment → segment ≤ m.geometry.segments → TokenFits m s d segment (seq segment) (clean segment) (pages segment)) → All (λ r. (segment : ℕ) → number_or_zero segment r.locks ≤ clean segment) (drop (d.dropped node) (records_of m s d node)) → All (IsOnPages m.geometry d) (records_of m s d node)
+pub all-on_pages : (m : Setting) (s : State) (d : Disks) (node : ℕ) (seq clean : ℕ → ℕ) (pages : ℕ → List PageEntry) → Fits m s d → node < m.geometry.nodes → ((segment : ℕ) → 1 ≤ segment → segment ≤ m.geometry.segments → TokenFits m s d segment (seq segment) (clean segment) (pages segment)) → All (λ r. (segment : ℕ) → number_or_zero segment r.locks ≤ clean segment) (drop (d.dropped node) (records_of m s d node)) → All (IsOnPages m.geometry d) (records_of m s d node)
 all-on_pages m s d node seq clean pages fits known tokens low =
     let rs : List Record = records_of m s d node in
     λ k r k_in.

@@ -5,16 +5,16 @@ use Rattle.std.specs.List.{AllPairs}
 use Rattle.std.proofs.lemmas.Bool.{cases_eq}
 use Rattle.std.proofs.lemmas.List.Elements.{Contains-push, Contains-push_cases, Contains-append_left, Contains-get_or}
 use Rattle.std.proofs.lemmas.List.Quantifiers.{all_pairs_push}
-use Rattle.lc_page.specs.declared.entry.Entry.{Entry}
+use Rattle.lc_page.specs.declared.page_entry.PageEntry.{PageEntry}
 use Rattle.lc_token.specs.Token.{IsDirtyPage}
 use Rattle.lc_trunc.specs.Dirty.{AreDirtyPages}
 
 -- these numbers ascend, and are those of the dirty pages below an end
-pub record DirtyBelow (pages : List Entry) (end : ℕ) (numbers : List ℕ) : Type 0 where
+pub record DirtyBelow (pages : List PageEntry) (end : ℕ) (numbers : List ℕ) : Type 0 where
   pub ascend : AllPairs (λ a b. a < b) numbers
   pub each : (page : ℕ) → Contains numbers page ↔ ((page < end) × IsDirtyPage pages page)
 
-pub dirty_more : (pages : List Entry) (end : ℕ) (numbers : List ℕ) → IsDirtyPage pages end → DirtyBelow pages end numbers → DirtyBelow pages (end + 1) (numbers ++ end ∷ [])
+pub dirty_more : (pages : List PageEntry) (end : ℕ) (numbers : List ℕ) → IsDirtyPage pages end → DirtyBelow pages end numbers → DirtyBelow pages (end + 1) (numbers ++ end ∷ [])
 dirty_more pages end numbers dirty below = record {
   ascend = all_pairs_push (λ (a b : ℕ). a < b) numbers end below.ascend (λ k d within. ((below.each (get_or numbers k d)).0 (Contains-get_or numbers k d within)).0);
   each = λ page. (
@@ -29,7 +29,7 @@ dirty_more pages end numbers dirty below = record {
   );
 }
 
-pub clean_same : (pages : List Entry) (end : ℕ) (numbers : List ℕ) → (IsDirtyPage pages end → ⊥) → DirtyBelow pages end numbers → DirtyBelow pages (end + 1) numbers
+pub clean_same : (pages : List PageEntry) (end : ℕ) (numbers : List ℕ) → (IsDirtyPage pages end → ⊥) → DirtyBelow pages end numbers → DirtyBelow pages (end + 1) numbers
 clean_same pages end numbers clean below = record {
   ascend = below.ascend;
   each = λ page. (
@@ -41,7 +41,7 @@ clean_same pages end numbers clean below = record {
   );
 }
 
-pub dirty_all : (pages : List Entry) (end : ℕ) (numbers : List ℕ) → ((page : ℕ) → IsDirtyPage pages page → page < end) → DirtyBelow pages end numbers → AreDirtyPages pages numbers
+pub dirty_all : (pages : List PageEntry) (end : ℕ) (numbers : List ℕ) → ((page : ℕ) → IsDirtyPage pages page → page < end) → DirtyBelow pages end numbers → AreDirtyPages pages numbers
 dirty_all pages end numbers all below = record {
   ascend = below.ascend;
   each = λ page. (λ c. ((below.each page).0 c).1, λ dirty. (below.each page).1 (all page dirty, dirty));

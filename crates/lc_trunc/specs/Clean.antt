@@ -4,7 +4,7 @@ use Rattle.lc_record.specs.Transaction.{Transaction}
 use Rattle.lc_record.specs.Recorded.{records_from}
 use Rattle.lc_record.specs.declared.record.Record.{Record}
 use Rattle.lc_record.specs.declared.geometry.Geometry.{Geometry}
-use Rattle.lc_page.specs.declared.entry.Entry.{Entry}
+use Rattle.lc_page.specs.declared.page_entry.PageEntry.{PageEntry}
 use Rattle.lc_page.specs.PageVector.{entry_at}
 use Rattle.lc_model.specs.History.{History, transactions}
 use Rattle.lc_model.specs.State.{State, Setting}
@@ -27,12 +27,12 @@ IsCleanTo g d segment clean r =
     Shows d segment page text → number_or_zero segment r.locks ≤ text.sequence
 
 -- under a number up to the token's, the pages of its bytes are touched
-abbrev pub IsTouched : Geometry → ℕ → ℕ → List Entry → Record → Type 0
+abbrev pub IsTouched : Geometry → ℕ → ℕ → List PageEntry → Record → Type 0
 IsTouched g segment seq pages r =
     number_or_zero segment r.locks ≤ seq → (page : ℕ) → page < g.pages → HasByteOn g segment page r →
     number_or_zero segment r.locks ≤ (entry_at pages page).touched
 
-pub record TokenFits (m : Setting) (s : State) (d : Disks) (segment seq clean : ℕ) (pages : List Entry) : Type 0 where
+pub record TokenFits (m : Setting) (s : State) (d : Disks) (segment seq clean : ℕ) (pages : List PageEntry) : Type 0 where
   pub count : length pages ≡ m.geometry.pages
   pub few : m.geometry.pages ≤ 2 ^ 32
   -- no page of the disk is behind its entry, in any image, and no entry ahead of the token

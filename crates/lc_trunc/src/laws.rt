@@ -3,7 +3,7 @@ ghost use Rattle.std.specs.Prelude.{◌≡◌, ◌<◌, ◌≤◌, ◌+◌, ℕ,
 ghost use Rattle.lc_record.specs.Newest.{number_or_zero};
 ghost use Rattle.lc_record.specs.declared.record.Record.{Record};
 ghost use Rattle.lc_record.specs.Transaction.{Transaction};
-ghost use Rattle.lc_page.specs.declared.entry.Entry.{Entry};
+ghost use Rattle.lc_page.specs.declared.page_entry.PageEntry.{PageEntry};
 ghost use Rattle.lc_page.specs.PageVector.{entry_at, settled};
 ghost use Rattle.lc_token.specs.Token.{IsReached};
 ghost use Rattle.lc_token.specs.declared.token.Token.{Token};
@@ -22,16 +22,16 @@ ghost use Rattle.lc_trunc.specs.Reset.{AreKnown, BeginWith};
 /// What a token calls clean is on the pages, so a log whose every record is clean may be reset.
 pub fn clean_pages()
     ensures written { (m : Setting) (s : State) (d : Disks) (segment seq clean page reached : ℕ) (text : Page)
-        (pages : List Entry) → TokenFits m s d segment seq clean pages → page < m.geometry.pages →
+        (pages : List PageEntry) → TokenFits m s d segment seq clean pages → page < m.geometry.pages →
         d.opened segment page ≡ Some text → text.sequence ≤ seq →
         IsReached seq (slice_set pages page (settled (entry_at pages page) text.sequence)) reached →
         TokenFits m s (with_settled d segment page text) segment seq (max clean reached)
         (slice_set pages page (settled (entry_at pages page) text.sequence)) }
-    ensures reserved { (m : Setting) (s : State) (d : Disks) (segment seq clean : ℕ) (pages : List Entry)
+    ensures reserved { (m : Setting) (s : State) (d : Disks) (segment seq clean : ℕ) (pages : List PageEntry)
         (t : Transaction) → TokenFits m s d segment seq clean pages →
         seq ≤ counted_all d.numbers (transactions s.history) segment → clean ≤ seq →
         TokenFits m (appended s t) d segment seq clean pages }
-    ensures closed { (m : Setting) (s : State) (d : Disks) (segment seq clean : ℕ) (pages after : List Entry)
+    ensures closed { (m : Setting) (s : State) (d : Disks) (segment seq clean : ℕ) (pages after : List PageEntry)
         (history : History) → TokenFits m s d segment seq clean pages →
         transactions history ≡ transactions s.history → length after ≡ length pages →
         ((page : ℕ) → ((entry_at after page).stable ≡ (entry_at pages page).stable)
@@ -40,10 +40,10 @@ pub fn clean_pages()
         HasByteOn m.geometry segment page r → seq + 1 ≤ (entry_at after page).touched) (all_of m s d) →
         TokenFits m (record s { history = history }) d segment (seq + 1) clean after }
     ensures opened { (m : Setting) (s : State) (d : Disks) (segment seq clean other page : ℕ) (text : Page)
-        (pages : List Entry) → TokenFits m s d segment seq clean pages →
+        (pages : List PageEntry) → TokenFits m s d segment seq clean pages →
         (d.page other page).sequence ≤ text.sequence →
         TokenFits m s (with_opened d other page text) segment seq clean pages }
-    ensures fewer { (m : Setting) (s : State) (d new : Disks) (segment seq clean : ℕ) (pages : List Entry) →
+    ensures fewer { (m : Setting) (s : State) (d new : Disks) (segment seq clean : ℕ) (pages : List PageEntry) →
         TokenFits m s d segment seq clean pages → new.numbers ≡ d.numbers →
         ((page : ℕ) (text : Page) → Shows new segment page text → Shows d segment page text) →
         TokenFits m s new segment seq clean pages }
@@ -52,7 +52,7 @@ pub fn clean_pages()
         counted_all d.numbers (closed_of s.history) segment
         ≡ counted_all d.numbers (transactions s.history) segment }
     ensures may_reset { (m : Setting) (s : State) (d : Disks) (node : ℕ) (seq clean : ℕ → ℕ)
-        (pages : ℕ → List Entry) → Fits m s d → node < m.geometry.nodes →
+        (pages : ℕ → List PageEntry) → Fits m s d → node < m.geometry.nodes →
         ((segment : ℕ) → 1 ≤ segment → segment ≤ m.geometry.segments →
         TokenFits m s d segment (seq segment) (clean segment) (pages segment)) →
         All (λ r. (segment : ℕ) → number_or_zero segment r.locks ≤ clean segment)

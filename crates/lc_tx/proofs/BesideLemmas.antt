@@ -4,7 +4,7 @@ use Rattle.std.specs.Prelude.{unwrap_or, slice_index}
 use Rattle.std.proofs.lemmas.Bool.{cases_Bool, false_from_ne_true}
 use Rattle.std.proofs.lemmas.List.{length-map}
 use Rattle.lc_record.specs.Content.{Content, put, on_segment, segment_of}
-use Rattle.lc_record.specs.Transaction.{Transaction, Written, is_member, writes_on}
+use Rattle.lc_record.specs.Transaction.{Transaction, ByteWrite, is_member, writes_on}
 use Rattle.lc_record.proofs.SegmentLemmas.{segment_of-other, segment_of-same}
 use Rattle.lc_record.proofs.LockLemmas.{member_right as in_second}
 use Rattle.lc_range.specs.Undo.{kept, LiesBelow}
@@ -20,7 +20,7 @@ use Rattle.lc_tx.proofs.HoldsLemmas.{asked_reading, asked_writing, held_cases, l
 use Rattle.lc_tx.proofs.ImagesLemmas.{here_along}
 use Rattle.lc_tx.proofs.MemberLemmas.{not_both, not_one}
 
-written_same : (s : ℕ) (ws : List Written) (a b : Content) → segment_of s a ≡ segment_of s b → segment_of s (writes_on ws a) ≡ segment_of s (writes_on ws b)
+written_same : (s : ℕ) (ws : List ByteWrite) (a b : Content) → segment_of s a ≡ segment_of s b → segment_of s (writes_on ws a) ≡ segment_of s (writes_on ws b)
 written_same s [] a b same = same
 written_same s (w ∷ ws) a b same =
     let f = put w.offset w.bytes in

@@ -4,7 +4,7 @@ use Rattle.std.specs.Prelude.{◌↔◌, All, IsSome, IsTrue, unwrap_or, slice_i
 use Rattle.std.proofs.lemmas.Bool.{cases_lt}
 use Rattle.std.proofs.lemmas.List.Elements.{All-head, All-nil, All-tail}
 use Rattle.lc_record.specs.Content.{Content, put, on_segment, segment_of}
-use Rattle.lc_record.specs.Transaction.{Transaction, Written, is_member, all_set, writes_on, effect}
+use Rattle.lc_record.specs.Transaction.{Transaction, ByteWrite, is_member, all_set, writes_on, effect}
 use Rattle.lc_record.specs.Marks.{ranges, is_empty, marked, written}
 use Rattle.lc_record.specs.Recorded.{record_of, locks_of}
 use Rattle.lc_record.proofs.SegmentLemmas.{segment_of-other, segment_of-same, shape-on_segment, length-put, length-written_segment, all_set-put, well-marked, well-written}
@@ -137,23 +137,23 @@ same_list (x ∷ xs) (y ∷ ys) long same =
     cc
 
 -- one write more
-pub writes-more : (ws : List Written) (w : Written) (content : Content) → writes_on (ws ++ w ∷ []) content ≡ on_segment w.segment (put w.offset w.bytes) (writes_on ws content)
+pub writes-more : (ws : List ByteWrite) (w : ByteWrite) (content : Content) → writes_on (ws ++ w ∷ []) content ≡ on_segment w.segment (put w.offset w.bytes) (writes_on ws content)
 writes-more [] w content = refl
 writes-more (v ∷ ws) w content = writes-more ws w (on_segment v.segment (put v.offset v.bytes) content)
 
-shape-writes : (ws : List Written) (content : Content) → map length (writes_on ws content) ≡ map length content
+shape-writes : (ws : List ByteWrite) (content : Content) → map length (writes_on ws content) ≡ map length content
 shape-writes [] content = refl
 shape-writes (w ∷ ws) content =
     shape-writes ws (on_segment w.segment (put w.offset w.bytes) content) ∙ shape-on_segment w.segment (put w.offset w.bytes) content (length-put w.offset w.bytes)
 
 -- what is not written has the content's bytes
-pub unwritten : (locked : List ℕ) (s : ℕ) (ws : List Written) (content : Content) → All (λ w. IsTrue (is_member w.segment locked)) ws → is_member s locked ≡ false
+pub unwritten : (locked : List ℕ) (s : ℕ) (ws : List ByteWrite) (content : Content) → All (λ w. IsTrue (is_member w.segment locked)) ws → is_member s locked ≡ false
     → segment_of s (writes_on ws content) ≡ segment_of s content
 unwritten locked s [] content all none = refl
 unwritten locked s (w ∷ ws) content all none =
-    let here : is_member w.segment locked ≡ true = All-head (λ (v : Written). IsTrue (is_member v.segment locked)) w ws all in
+    let here : is_member w.segment locked ≡ true = All-head (λ (v : ByteWrite). IsTrue (is_member v.segment locked)) w ws all in
     let differ : s ≢ w.segment = λ same. true≢false (sym here ∙ subst (λ (n : ℕ). is_member n locked ≡ false) same none) in
-    unwritten locked s ws (on_segment w.segment (put w.offset w.bytes) content) (All-tail (λ (v : Written). IsTrue (is_member v.segment locked)) w ws all) none
+    unwritten locked s ws (on_segment w.segment (put w.offset w.bytes) content) (All-tail (λ (v : ByteWrite). IsTrue (is_member v.segment locked)) w ws all) none
     ∙ segment_of-other s w.segment (put w.offset w.bytes) content differ
 
 -- no position of an empty list is marked
@@ -401,8 +401,8 @@ module _ {I : Type 0} (m : Ghosts I) where
     reading_are = refl;
     well_formed = record {
       set_locked = λ s place set. absurd (true≢false (sym set ∙ none_marked s place content));
-      write_locked = All-nil (λ (w : Written). _);
-      write_set = All-nil (λ (w : Written). _);
+      write_locked = All-nil (λ (w : ByteWrite). _);
+      write_set = All-nil (λ (w : ByteWrite). _);
     };
     shape = same_shape content;
     inside = λ s held. show.inside s (asked s held);

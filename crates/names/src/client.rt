@@ -1,7 +1,7 @@
 //! A client, which a thread of its own serves.
 use crate::fault::Fault;
-use crate::line::Line;
-use crate::queues::Message;
+use crate::input_line::InputLine;
+use crate::queues::ClientMessage;
 use crate::replies::Replies;
 use crate::reply::{write_answer, write_not_understood};
 use crate::request::{Request, request_of};
@@ -20,7 +20,7 @@ const TABLE: u32 = 16 * 256;
 pub(crate) struct Client<'a, D: Area + Drop> {
     pub(crate) number: usize,
     pub(crate) committer: Committer<'a, D>,
-    pub(crate) queue: Receiver<Message>,
+    pub(crate) queue: Receiver<ClientMessage>,
     pub(crate) replies: &'a Replies,
 }
 
@@ -32,7 +32,7 @@ impl<D: Area + Drop> Client<'_, D> {
     /// Where a device or standard output fails, or there is no memory for a reply.
     pub(crate) fn serve<R: AllocGlobal + Print + Wait>(mut self, rt: &R) -> Result<(), Fault> {
         for _ in rt.forever() {
-            let Ok(Message::Line(line)) = self.queue.recv(rt) else {
+            let Ok(ClientMessage::Line(line)) = self.queue.recv(rt) else {
                 break;
             };
             self.reply(rt, &line)?;
@@ -41,7 +41,11 @@ impl<D: Area + Drop> Client<'_, D> {
     }
 
     // Does what a line asks, and prints the reply when it is durable.
-    fn reply<R: AllocGlobal + Print + Wait>(&mut self, rt: &R, line: &Line) -> Result<(), Fault> {
+    fn reply<R: AllocGlobal + Print + Wait>(
+        &mut self,
+        rt: &R,
+        line: &InputLine,
+    ) -> Result<(), Fault> {
         let mut reply = String::new(rt.alloc());
         let request = request_of(&line.bytes);
         match request {

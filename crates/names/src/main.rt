@@ -5,7 +5,7 @@
 mod client;
 mod fault;
 mod help;
-mod line;
+mod input_line;
 mod queues;
 mod reader;
 mod replies;

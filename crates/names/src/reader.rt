@@ -1,6 +1,6 @@
 //! Standard input, which a thread of its own reads.
 use crate::fault::Fault;
-use crate::line::Lines;
+use crate::input_line::Lines;
 use crate::queues::Queues;
 use crate::request::client_of;
 use std::io::{self, BufReader};

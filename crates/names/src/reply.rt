@@ -1,7 +1,7 @@
 //! The text of replies: each line begins with the number of the client.
-use crate::line::Line;
+use crate::input_line::InputLine;
 use crate::request::client_of;
-use lc_names::{Answer, NameFault};
+use lc_names::{NameAnswer, NameFault};
 use std::alloc::AllocError;
 
 /// Writes what the table answers to a request by this verb.
@@ -13,12 +13,17 @@ pub(crate) fn write_answer(
     reply: &mut String,
     client: usize,
     verb: &str,
-    answer: &Result<Answer, NameFault>,
+    answer: &Result<NameAnswer, NameFault>,
 ) -> Result<(), AllocError> {
     match answer {
-        Ok(Answer::Done) => writeln!(reply, "{client} {verb}d"),
-        Ok(Answer::Attributes(attributes)) => write_text(reply, client, "attributes", attributes),
-        Ok(Answer::Names(names)) => {
+        Ok(NameAnswer::Done) => writeln!(reply, "{client} {verb}d"),
+        Ok(NameAnswer::Attributes(attributes)) => write_text(
+            reply,
+            client,
+            "attributes",
+            attributes,
+        ),
+        Ok(NameAnswer::Names(names)) => {
             for name in names {
                 write_text(reply, client, "name", name)?;
             }
@@ -44,7 +49,7 @@ fn write_text(
 /// # Errors
 ///
 /// As of `write_answer`.
-pub(crate) fn write_not_understood(reply: &mut String, line: &Line) -> Result<(), AllocError> {
+pub(crate) fn write_not_understood(reply: &mut String, line: &InputLine) -> Result<(), AllocError> {
     if let Some(client) = client_of(&line.bytes) {
         write!(reply, "{client} ")?;
     }

@@ -1,6 +1,6 @@
 //! What clients ask, a line for each request.
-use crate::line::LONGEST_LINE;
-use lc_names::Command;
+use crate::input_line::LONGEST_LINE;
+use lc_names::NameCommand;
 
 /// So many clients there are, numbered from 0.
 pub(crate) const CLIENTS: usize = 8;
@@ -9,7 +9,7 @@ pub(crate) const CLIENTS: usize = 8;
 #[derive(Clone, Copy)]
 pub(crate) struct Request<'a> {
     pub(crate) verb: &'a str,
-    pub(crate) command: Command<'a>,
+    pub(crate) command: NameCommand<'a>,
 }
 
 /// The client whose number a line begins with, before a blank.
@@ -30,11 +30,11 @@ pub(crate) fn request_of(line: &[u8]) -> Option<Request<'_>> {
     let verb = words.next()?;
     let mut names = words.map(str::as_bytes);
     let command = match (verb, names.next(), names.next(), names.next()) {
-        ("create", Some(name), text, None) => Command::Create(name, text.unwrap_or(b"")),
-        ("rename", Some(from), Some(to), None) => Command::Rename(from, to),
-        ("remove", Some(name), None, None) => Command::Remove(name),
-        ("find", Some(name), None, None) => Command::Find(name),
-        ("list", None, None, None) => Command::List,
+        ("create", Some(name), text, None) => NameCommand::Create(name, text.unwrap_or(b"")),
+        ("rename", Some(from), Some(to), None) => NameCommand::Rename(from, to),
+        ("remove", Some(name), None, None) => NameCommand::Remove(name),
+        ("find", Some(name), None, None) => NameCommand::Find(name),
+        ("list", None, None, None) => NameCommand::List,
         _ => return None,
     };
     Some(Request { verb, command })

@@ -3,7 +3,7 @@ ghost use Rattle.lc_stage.specs.Seats.{commit_view, IsSeatOf, IsIdle};
 
 use crate::client::Client;
 use crate::fault::Fault;
-use crate::queues::{Message, Queues};
+use crate::queues::{ClientMessage, Queues};
 use crate::replies::Replies;
 use crossbeam_channel::Receiver;
 use lc_committer::Committer;
@@ -26,7 +26,7 @@ pub(crate) fn serve<R: AllocGlobal + Print + Threads + Wait + Sync, D: Area + Dr
     node: &Node<D>,
     seat: CommitSeat,
     queues: &Queues,
-    receivers: Vec<Receiver<Message>>,
+    receivers: Vec<Receiver<ClientMessage>>,
     reader: JoinHandle<Result<(), Fault>>,
 ) -> Result<bool, Fault>
     requires own { IsSeatOf node.now.stage seat }
@@ -47,7 +47,7 @@ pub(crate) fn serve<R: AllocGlobal + Print + Threads + Wait + Sync, D: Area + Dr
 fn clients_on<'a, D: Area + Drop>(
     alloc: Global,
     mut first: Committer<'a, D>,
-    receivers: Vec<Receiver<Message>>,
+    receivers: Vec<Receiver<ClientMessage>>,
     replies: &'a Replies,
 ) -> Result<Vec<Client<'a, D>>, AllocError> {
     let mut clients = Vec::new(alloc);

@@ -1,7 +1,7 @@
 use Rattle.std.proofs.Common.{◌≡◌, ◌+◌, ◌≤◌, ◌++◌, length, drop, vec_len, vec_capacity}
 use Rattle.lc_range.specs.RangeSet.{EndWithin, total_len}
 use Rattle.lc_applied.specs.AppliedParts.{runs_of}
-use Rattle.lc_applied.specs.Entry.{bytes_of}
+use Rattle.lc_applied.specs.AppliedPart.{bytes_of}
 use Rattle.lc_applied.proofs.runs.add_runs.Given as goal
 
 abbrev pub invariant-loop-run : goal.invariant-loop-run

@@ -1,7 +1,7 @@
 use Rattle.std.proofs.Common.{◌≡◌, ◌∙◌, [], true, refl, subst, sym, inl}
 use Rattle.std.specs.Prelude.{None, Some}
-use Rattle.lc_c.specs.Kept.{IsNone}
-use Rattle.lc_c.specs.Stage.{gathered, geometry_of, is_gathering}
+use Rattle.lc_c.specs.SuspendedTransactions.{IsNone}
+use Rattle.lc_c.specs.SessionState.{gathered, geometry_of, is_gathering}
 use Rattle.lc_c.specs.declared.session.Session.{Session}
 use Rattle.lc_c.proofs.exports.lcrvm_session_new.Goals as goal
 

@@ -1,4 +1,4 @@
-use Rattle.lc_c.specs.Kept.{AsideBelow}
+use Rattle.lc_c.specs.SuspendedTransactions.{AsideBelow}
 use Rattle.lc_c.proofs.keeping.asides_of.Given as goal
 
 abbrev pub invariant-loop-thread : goal.invariant-loop-thread

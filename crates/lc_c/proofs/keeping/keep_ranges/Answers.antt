@@ -2,7 +2,7 @@ use Rattle.std.proofs.Common.{◌∙◌, ◌++◌, ◌∷◌, [], List, ap, sym,
 use Rattle.std.specs.Prelude.{slice_index_or}
 use Rattle.std.proofs.lemmas.List.{take_more}
 use Rattle.lc_range.specs.declared.range.Range.{Range}
-use Rattle.lc_c.specs.Kept.{AddsTo, HoldEach}
+use Rattle.lc_c.specs.SuspendedTransactions.{AddsTo, HoldEach}
 use Rattle.lc_c.proofs.Holding.{one_added}
 use Rattle.lc_c.proofs.keeping.keep_ranges.Goals as goal
 

@@ -1,5 +1,5 @@
 use Rattle.std.proofs.Common.{take}
-use Rattle.lc_c.specs.Kept.{AddsTo, HoldEach}
+use Rattle.lc_c.specs.SuspendedTransactions.{AddsTo, HoldEach}
 use Rattle.lc_c.proofs.keeping.keep_ranges.Given as goal
 
 abbrev pub invariant-loop-range : goal.invariant-loop-range

@@ -1,4 +1,4 @@
-use Rattle.lc_c.specs.Kept.{HoldBelow}
+use Rattle.lc_c.specs.SuspendedTransactions.{HoldBelow}
 use Rattle.lc_c.proofs.keeping.pieces_of.Given as goal
 
 abbrev pub invariant-loop-thread : goal.invariant-loop-thread

@@ -6,7 +6,7 @@ use Rattle.lc_token.specs.declared.token.Token.{Token}
 use Rattle.lc_record.proofs.ListLemmas.{slice_get_some as some_at, left_first as next_left, left_some as some_left_over, set_behind as behind_set}
 use Rattle.lc_core.specs.Pieces.{IsMadeNode, left_at, left_by}
 use Rattle.lc_core.specs.Places.{same_some}
-use Rattle.lc_core.specs.declared.node.Node.{Node}
+use Rattle.lc_core.specs.declared.node_state.NodeState.{NodeState}
 use Rattle.lc_core.specs.declared.node_piece.NodePiece.{NodePiece}
 use Rattle.lc_core.proofs.Furnishing.{front_set}
 use Rattle.lc_core.proofs.Pieces.{left_first, left_next, made_of_all, tokens_left}
@@ -71,7 +71,7 @@ loop-number-preserved g c =
     record {
       rest = c.remove-piece.ensures.items ∙ ap (drop 1) h.rest ∙ drop-drop 1 place all;
       named = tokens_left geometry place segments tokens c.adopt.new.tokens every later h.named c.adopt.ensures.left;
-      made = front_set (λ n (x : Node g.row.D.Denot g.D.Area). (q : NodePiece g.row.D.Denot g.D.Area) → slice_get all n ≡ Some q → IsMadeNode g.D.Area geometry n segments first q x) nodes place c.adopt.new.self h.made
+      made = front_set (λ n (x : NodeState g.row.D.Denot g.D.Area). (q : NodePiece g.row.D.Denot g.D.Area) → slice_get all n ≡ Some q → IsMadeNode g.D.Area geometry n segments first q x) nodes place c.adopt.new.self h.made
           (λ q its. subst (λ (r : NodePiece g.row.D.Denot g.D.Area). IsMadeNode g.D.Area geometry place segments first r c.adopt.new.self) (same_some c.remove-piece.result q (sym piece_there ∙ its)) made);
       behind = behind_set c.args.nodes.now nodes place c.adopt.new.self h.behind;
       left = λ k now got piece token its was.

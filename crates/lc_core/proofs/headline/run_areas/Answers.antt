@@ -5,7 +5,7 @@ use Rattle.lc_core.specs.Headline.{Holds}
 use Rattle.lc_core.specs.Lives.{FitsLife}
 use Rattle.lc_core.specs.Observed.{observed}
 use Rattle.lc_core.specs.Stops.{HasAreas}
-use Rattle.lc_core.specs.declared.phase.Phase.{Phase}
+use Rattle.lc_core.specs.declared.world_phase.WorldPhase.{WorldPhase}
 use Rattle.lc_core.proofs.Bases.{with_numbers, with_numbers-numbers, with_numbers-steps}
 use Rattle.lc_core.proofs.HeadlineHolds.{all_of, failures_are, failures_in, holds, settles}
 use Rattle.lc_recover.specs.Reads.{AllMergeTo}
@@ -47,8 +47,8 @@ returns-clause-asks g c = λ wants. elim (c.run-ran.ensures.asks wants) [
 pub returns-clause-calls : goal.returns-clause-calls
 returns-clause-calls g c = λ shape news gives.
     c.run-ran.ensures.calls c.args.geometry shape c.args.areas.items news
-    (subst (λ (p : Phase g.row.D.Denot g.D.Area). HasAreas g.D.Area p c.args.geometry c.args.areas.items) (sym c.in_ok-world.ensures.down) (refl, refl)) gives
+    (subst (λ (p : WorldPhase g.row.D.Denot g.D.Area). HasAreas g.D.Area p c.args.geometry c.args.areas.items) (sym c.in_ok-world.ensures.down) (refl, refl)) gives
 
 pub returns-clause-lives : goal.returns-clause-lives
 returns-clause-lives g c = c.run-ran.ensures.lives c.args.geometry None
-    (subst (λ (p : Phase g.row.D.Denot g.D.Area). FitsLife g.D.Area c.args.geometry None p) (sym c.in_ok-world.ensures.down) refl)
+    (subst (λ (p : WorldPhase g.row.D.Denot g.D.Area). FitsLife g.D.Area c.args.geometry None p) (sym c.in_ok-world.ensures.down) refl)

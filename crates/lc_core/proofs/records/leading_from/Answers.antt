@@ -1,6 +1,6 @@
 use Rattle.std.proofs.Common.{◌≡◌, ℕ, ◌+◌, suc, map, drop, ap, arith}
 use Rattle.lc_model.specs.History.{leading}
-use Rattle.lc_core.specs.declared.place.Place.{Place}
+use Rattle.lc_core.specs.declared.record_end.RecordEnd.{RecordEnd}
 use Rattle.lc_core.proofs.Spans.{closed_next, open_next}
 use Rattle.lc_core.proofs.records.leading_from.Goals as goal
 
@@ -9,7 +9,7 @@ loop-count-preserved c =
     let n : ℕ = c.loop-count.count in
     let one : n + 1 ≡ suc n = omega arith in
     let next = closed_next c.args.places.now n _ c.loop-count-test.true c.if-places-count.true in
-    let there = ap (λ (k : ℕ). leading (drop k (map (λ (p : Place). p.closed) c.args.places.now))) one in
+    let there = ap (λ (k : ℕ). leading (drop k (map (λ (p : RecordEnd). p.closed) c.args.places.now))) one in
     (omega (arith, c.loop-count-test.true), omega (arith, next, there, c.loop-count.invariant.1))
 
 pub returns-else-places-count : goal.returns-else-places-count

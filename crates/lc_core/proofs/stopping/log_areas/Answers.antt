@@ -6,7 +6,7 @@ use Rattle.std.proofs.lemmas.Option.{slice_get_within}
 use Rattle.lc_record.proofs.ListLemmas.{slice_get-append_left as front_get, left_first as first_left, left_some as some_left}
 use Rattle.lc_core.specs.Log.{area_of}
 use Rattle.lc_core.specs.Places.{same_some}
-use Rattle.lc_core.specs.declared.node.Node.{Node}
+use Rattle.lc_core.specs.declared.node_state.NodeState.{NodeState}
 use Rattle.lc_core.proofs.Devices.{log_area_of}
 use Rattle.lc_core.proofs.Gathering.{last_get}
 use Rattle.lc_core.proofs.stopping.log_areas.Goals as goal
@@ -44,7 +44,7 @@ loop-preserved g c =
       logs = λ n node less got. elim (cases_eq n c.loop.counter) [
         | inl same ↦
             let its : c.remove-journal.result ≡ node = same_some c.remove-journal.result node (sym at ∙ sym (ap (slice_get c.args.nodes.items) same) ∙ got) in
-            ap (λ (node : Node g.row.D.Denot g.D.Area). area_of g.D.Area node.journal.log) (sym its) ∙ sym c.into_area.ensures ∙ c.in-Some.is
+            ap (λ (node : NodeState g.row.D.Denot g.D.Area). area_of g.D.Area node.journal.log) (sym its) ∙ sym c.into_area.ensures ∙ c.in-Some.is
             ∙ sym (ap (λ l. slice_get l n) c.push_reserved.ensures.items ∙ last_get c.loop.areas.items c.in-Some.area n (same ∙ sym h.count))
         | inr differ ↦
             let before : n < length c.loop.areas.items = omega (arith, less, differ, h.count) in

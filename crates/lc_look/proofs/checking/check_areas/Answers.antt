@@ -1,7 +1,7 @@
 use Rattle.std.proofs.Common.{◌≡◌, [], refl, sym, ◌∙◌, ap, subst, inr}
 use Rattle.std.proofs.lemmas.Result.{IfErr-at_err, IfOk-weaker}
 use Rattle.std.specs.Io.KnownBytes.{Appends}
-use Rattle.lc_model.specs.Merge.{Store}
+use Rattle.lc_model.specs.Merge.{StoreText}
 use Rattle.lc_recover.specs.declared.fault.RecoverFault.{RecoverFault}
 use Rattle.lc_recover.specs.declared.fault.RecoverFault.TheVariants.{BadGeometry}
 use Rattle.lc_look.specs.Checks.{EndsWithRecovery, Shows}
@@ -15,7 +15,7 @@ use Rattle.lc_look.proofs.checking.check_areas.Goals as goal
 pub returns-in-Ok-clause-checks : goal.returns-in-Ok-clause-checks
 returns-in-Ok-clause-checks g c =
     IfOk-weaker c.show.result _ _ (λ status told lengths honest.
-    (told.0, inr (subst (λ (s : Store). Shows c.args.geometry.now s told.0 status) (c.in-Ok.ensures.read honest) told.1), told.2)) c.show.ensures.shows
+    (told.0, inr (subst (λ (s : StoreText). Shows c.args.geometry.now s told.0 status) (c.in-Ok.ensures.read honest) told.1), told.2)) c.show.ensures.shows
 
 pub returns-in-Ok-clause-wrong : goal.returns-in-Ok-clause-wrong
 returns-in-Ok-clause-wrong g c = IfOk-weaker c.show.result _ _ (λ status told area wrong. absurd (wrong.is (c.in-Ok.ensures.right area))) c.show.ensures.shows

@@ -1,7 +1,7 @@
 use Rattle.std.proofs.Common.{◌≡◌, ℕ, ◌+◌, ◌-◌, List, [], map, refl, sym, ◌∙◌, ap, subst}
 use Rattle.std.specs.Prelude.{slice_index_or}
 use Rattle.std.proofs.lemmas.Result.{IfErr-at_err, err_from_is_err_and}
-use Rattle.lc_model.specs.Merge.{MergesTo, Store}
+use Rattle.lc_model.specs.Merge.{MergesTo, StoreText}
 use Rattle.lc_recover.specs.Fault.{IsRefusal}
 use Rattle.lc_recover.specs.Reads.{store_of}
 use Rattle.lc_recover.specs.declared.fault.RecoverFault.{RecoverFault}
@@ -41,7 +41,7 @@ returns-clause-found g c =
       bytes = λ honest. (
         its.content,
         its.numbers,
-        subst (λ (s : Store). MergesTo s its.content its.numbers) (c.in_ok-forecast.ensures.read honest) its.merges,
+        subst (λ (s : StoreText). MergesTo s its.content its.numbers) (c.in_ok-forecast.ensures.read honest) its.merges,
         c.page.ensures.bytes its.content its.numbers its.merges,
       );
       slots = λ honest.

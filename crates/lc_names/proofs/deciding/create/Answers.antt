@@ -2,9 +2,9 @@ use Rattle.std.proofs.Common.{rules, ◌≡◌, List, ℕ, Option, Result, Err, 
 use Rattle.std.specs.Prelude.{MatchOption, MatchResult, is_some, ◌≢◌}
 use Rattle.std.proofs.lemmas.Iterator.{IsFirst-from_position, YieldsList-from_slice}
 use borrow.Author.Tests.{tests}
-use Rattle.lc_names.specs.Answers.{Change, Changes, Creates, IsUncreated}
+use Rattle.lc_names.specs.Answers.{EntryChange, Changes, Creates, IsUncreated}
 use Rattle.lc_names.specs.Table.{IsFreePlace, IsFull}
-use Rattle.lc_names.specs.declared.entry.TheConstants.{NAME}
+use Rattle.lc_names.specs.declared.name_entry.TheConstants.{NAME}
 use Rattle.lc_names.specs.declared.name_fault.NameFault.{NameFault}
 use Rattle.lc_names.specs.declared.name_fault.NameFault.TheVariants.{Full}
 use Rattle.lc_names.proofs.Changes.{created, free_or_full, no_place, nowhere_none, seen_name, seen_none, seen_some, some_place}
@@ -30,7 +30,7 @@ returns-in_err-ok_or-in-None c =
     (IsFirst-from_position _ _ _ (λ (y : List ℕ). get_or y NAME 0 ≡ 0) (λ (y : List ℕ). get_or y NAME 0 ≢ 0) c.position-free.ensures.ran (YieldsList-from_slice entries cc) (λ x q k. search (rules, tests)) (λ x q k. search (rules, tests))) in
     let is : c.from_residual-in_err-ok_or-in-None.result ≡ Err Full = (let one : c.from_residual-in_err-ok_or-in-None.result ≡ Err fault = search rules in one ∙ ap (λ (f : NameFault). Err f) none.1) in
     let nowhere = seen_none name entries seen told (ap (λ (o : Option ℕ). is_some o) c.in-None.is) in
-    subst (λ (r : Result Change NameFault). MatchResult r (Changes entries (Creates entries name attributes)) (IsUncreated entries name attributes)) (sym is) (
+    subst (λ (r : Result EntryChange NameFault). MatchResult r (Changes entries (Creates entries name attributes)) (IsUncreated entries name attributes)) (sym is) (
       c.requires,
       seen_name name entries seen told,
       c.if-attributes-gt-LONGEST.false,

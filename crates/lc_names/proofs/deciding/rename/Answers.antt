@@ -1,7 +1,7 @@
 use Rattle.std.proofs.Common.{rules, ◌≡◌, List, ℕ, Option, Result, Err, ap, subst, sym, ◌∙◌}
 use Rattle.std.specs.Prelude.{MatchResult, is_some}
-use Rattle.lc_names.specs.Answers.{Change, Changes, IsUnrenamed, Renames}
-use Rattle.lc_names.specs.Entry.{AreAttributes, entry_of}
+use Rattle.lc_names.specs.Answers.{EntryChange, Changes, IsUnrenamed, Renames}
+use Rattle.lc_names.specs.NameEntry.{AreAttributes, entry_of}
 use Rattle.lc_names.specs.declared.name_fault.NameFault.{NameFault}
 use Rattle.lc_names.proofs.Changes.{fit_there, place_is_some, renamed, seen_name, seen_none, seen_some, unrenamed}
 use Rattle.lc_names.proofs.deciding.rename.Goals as goal
@@ -13,7 +13,7 @@ returns-in_err-place c =
     let to = c.args.to.now in
     let fault = c.in_err-place.field-0.0 in
     let is : c.from_residual-in_err-place.result ≡ Err fault = search rules in
-    subst (λ (r : Result Change NameFault). MatchResult r (Changes entries (Renames entries from to)) (IsUnrenamed entries from to)) (sym is)
+    subst (λ (r : Result EntryChange NameFault). MatchResult r (Changes entries (Renames entries from to)) (IsUnrenamed entries from to)) (sym is)
     (unrenamed entries c.requires from to fault (seen_name to entries c.in_ok-place_of.field-0 c.in_ok-place_of.ensures) c.in_err-place.ensures)
 
 pub returns-in-Some-default : goal.returns-in-Some-default

@@ -1,6 +1,6 @@
 use Rattle.std.proofs.Common.{rules, ◌≡◌, ℕ, List, false, nat_le, sym, ◌∙◌, arith, eq-eqb, true≢false, subst}
 use Rattle.std.specs.Prelude.{MatchResult}
-use Rattle.lc_names.specs.Entry.{Fits, is_used}
+use Rattle.lc_names.specs.NameEntry.{Fits, is_used}
 use Rattle.lc_names.specs.Table.{IsPlaceOf, IsUnplaced, entry_at}
 use Rattle.lc_names.proofs.Entries.{used_some, zero_unused}
 use Rattle.lc_names.proofs.Sound.{sound_where}

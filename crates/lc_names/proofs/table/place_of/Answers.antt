@@ -2,7 +2,7 @@ use Rattle.std.proofs.Common.{rules, ◌≡◌, true, false, List, ℕ}
 use Rattle.std.specs.Str.{bytes_eq}
 use Rattle.std.proofs.lemmas.Iterator.{IsFirst-from_position, YieldsList-from_slice}
 use borrow.Author.Tests.{tests}
-use Rattle.lc_names.specs.Entry.{IsName, name_of}
+use Rattle.lc_names.specs.NameEntry.{IsName, name_of}
 use Rattle.lc_names.proofs.Changes.{seen_by_text}
 use Rattle.lc_names.proofs.table.place_of.Goals as goal
 

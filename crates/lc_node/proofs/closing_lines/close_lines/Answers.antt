@@ -1,7 +1,7 @@
 use Rattle.std.proofs.Common.{◌≡◌, ◌<◌, ◌∷◌, List, length, sym, ap, subst, arith}
 use Rattle.lc_node.specs.Closing.{GivesAll}
 use Rattle.lc_node.specs.Keys.{AreWiredAs}
-use Rattle.lc_node.specs.declared.wiring.Ends.{Ends}
+use Rattle.lc_node.specs.declared.wiring.NodeEnds.{NodeEnds}
 use Rattle.lc_node.proofs.LinesClosed.{both_more, given_more, grows_more, grows_same, joined_first, lines_left, split_first}
 use Rattle.lc_node.proofs.closing_lines.close_lines.Goals as goal
 
@@ -10,7 +10,7 @@ close_with_all-requires g c =
     let all = c.loop.all.items in let mine = c.remove-mine.result in let left = c.remove-mine.new.self.items in
     let some : 0 < length all = (let count = c.loop.invariant.count in let test = c.loop-test.true in let end = c.len-end.ensures in let whole = c.args.all.ok.0 in omega arith) in
     let is : all ≡ mine ∷ left = split_first all left mine some c.remove-mine.ensures.value c.remove-mine.ensures.items in
-    record { lines = joined_first mine left (subst (λ (l : List (Ends g.row.P.Denot)). AreWiredAs (length l) l) is c.loop.invariant.wired) }
+    record { lines = joined_first mine left (subst (λ (l : List (NodeEnds g.row.P.Denot)). AreWiredAs (length l) l) is c.loop.invariant.wired) }
 
 pub loop-preserved : goal.loop-preserved
 loop-preserved g c =
@@ -19,12 +19,12 @@ loop-preserved g c =
     let some : 0 < length all = (let count = inv.count in let test = c.loop-test.true in let end = c.len-end.ensures in let whole = c.args.all.ok.0 in omega arith) in
     let is : all ≡ mine ∷ left = split_first all left mine some c.remove-mine.ensures.value c.remove-mine.ensures.items in
     let news = c.close_with_all.new.peers.items in let each = c.in_ok-close_with_all.ensures.peers in
-    let long : length all ≡ length (mine ∷ left) = ap (λ (l : List (Ends g.row.P.Denot)). length l) is in
+    let long : length all ≡ length (mine ∷ left) = ap (λ (l : List (NodeEnds g.row.P.Denot)). length l) is in
     record {
       count = (let same = each.long in let count = inv.count in omega arith);
-      wired = lines_left mine left news each (subst (λ (l : List (Ends g.row.P.Denot)). AreWiredAs (length l) l) is inv.wired);
+      wired = lines_left mine left news each (subst (λ (l : List (NodeEnds g.row.P.Denot)). AreWiredAs (length l) l) is inv.wired);
       given = λ tokens grows news_given. inv.given tokens (grows_more c.loop.tokens.items c.close_with_all.new.tokens.items tokens c.in_ok-close_with_all.ensures.grows grows)
-          (subst (λ (l : List (Ends g.row.P.Denot)). GivesAll l tokens) (sym is)
+          (subst (λ (l : List (NodeEnds g.row.P.Denot)). GivesAll l tokens) (sym is)
           (given_more mine left news each tokens (λ place peer at. both_more place mine peer c.close_with_all.new.tokens.items tokens (c.in_ok-close_with_all.ensures.tokens place peer at) grows) news_given));
     }
 

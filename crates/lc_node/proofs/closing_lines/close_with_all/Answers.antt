@@ -4,7 +4,7 @@ use Rattle.std.proofs.lemmas.Option.{slice_get_within, same_Some as some_same}
 use Rattle.std.proofs.lemmas.List.{length-set as length_set}
 use Rattle.lc_record.proofs.ListLemmas.{slice_get-set_same as get_same, slice_get-set_other as get_other}
 use Rattle.lc_node.specs.Closing.{GivesBoth, IsBehindFirst}
-use Rattle.lc_node.specs.declared.wiring.Ends.{Ends}
+use Rattle.lc_node.specs.declared.wiring.NodeEnds.{NodeEnds}
 use Rattle.lc_node.proofs.Backwards.{got_at}
 use Rattle.lc_node.proofs.LinesClosed.{both_more, drop_one_more, given_there, grows_more, grows_same, joined_here}
 use Rattle.lc_node.proofs.closing_lines.close_with_all.Goals as goal
@@ -47,12 +47,12 @@ loop-place-preserved g c =
       from = drop_one_more place c.args.mine.from.ends.items mine.from.ends.items c.close_both.new.mine.from.ends.items inv.from c.in_ok-close_both.ensures.mine.from;
       grows = grows_more c.args.tokens.now.items c.loop-place.tokens.items tokens inv.grows c.close_both.ensures.grows;
       done = λ k old new below had has. dite (dec_eq k place)
-          (λ is. subst (λ (o : Ends g.row.P.Denot). IsBehindFirst o new) (some_same peer old (sym here ∙ (ap (slice_get first) (sym is) ∙ had)))
-          (subst (λ (n : Ends g.row.P.Denot). IsBehindFirst peer n) (some_same after new (sym (get_same peers place peer after there) ∙ (ap (slice_get news) (sym is) ∙ has))) c.in_ok-close_both.ensures.peer))
+          (λ is. subst (λ (o : NodeEnds g.row.P.Denot). IsBehindFirst o new) (some_same peer old (sym here ∙ (ap (slice_get first) (sym is) ∙ had)))
+          (subst (λ (n : NodeEnds g.row.P.Denot). IsBehindFirst peer n) (some_same after new (sym (get_same peers place peer after there) ∙ (ap (slice_get news) (sym is) ∙ has))) c.in_ok-close_both.ensures.peer))
           (λ other. inv.done k old new (omega arith) had (sym (get_other peers place k after other) ∙ has));
       ahead = λ k past. let other : k ≢ place = λ e. omega (arith, e, past) in get_other peers place k after other ∙ inv.ahead k (omega arith);
       given = λ k old below had. dite (dec_eq k place)
-          (λ is. subst (λ (n : ℕ). GivesBoth n c.args.mine old tokens) (sym is) (subst (λ (o : Ends g.row.P.Denot). GivesBoth place c.args.mine o tokens) (some_same peer old (sym here ∙ (ap (slice_get first) (sym is) ∙ had)))
+          (λ is. subst (λ (n : ℕ). GivesBoth n c.args.mine old tokens) (sym is) (subst (λ (o : NodeEnds g.row.P.Denot). GivesBoth place c.args.mine o tokens) (some_same peer old (sym here ∙ (ap (slice_get first) (sym is) ∙ had)))
           (given_there place c.args.mine mine inv.to inv.from peer tokens c.in_ok-close_both.ensures.tokens)))
           (λ other. both_more k c.args.mine old c.loop-place.tokens.items tokens (inv.given k old (omega arith) had) c.close_both.ensures.grows);
     }

@@ -4,7 +4,7 @@ use Rattle.std.proofs.lemmas.Option.{same_Some as some_same}
 use Rattle.lc_lock.specs.Loans.{key_of}
 use Rattle.lc_node.specs.Keys.{AreOnLines, AreWiredAs, HasOneKey, wired_in}
 use Rattle.lc_node.specs.declared.joining.Post.{Post}
-use Rattle.lc_node.specs.declared.wiring.Ends.{Ends}
+use Rattle.lc_node.specs.declared.wiring.NodeEnds.{NodeEnds}
 use Rattle.lc_node.proofs.EachPlace.{each_more, first_is, left_is}
 use Rattle.lc_node.proofs.Joined.{front_of_all, rest_of_all}
 use Rattle.lc_node.proofs.KeysKept.{on_lines_of, still_wired, wired_long}
@@ -31,7 +31,7 @@ loop-preserved g c =
       posts = λ k next got.
           (let after : c.loop.counter + (1 + k) ≡ (c.loop.counter + 1) + k = omega arith in
           ap (slice_get all.items) (sym after) ∙ inv.posts (1 + k) next (left_is c.loop.posts.items c.remove.new.self.items k next c.remove.ensures.items got));
-      ends = each_more (λ place (ends : Ends g.row.P.Denot). (p : Post g.row.P.Denot) → slice_get all.items place ≡ Some p → AreOnLines (key_of p.to) ends) c.push_reserved.new.self.items c.loop.all.items c.take.result c.loop.counter
+      ends = each_more (λ place (ends : NodeEnds g.row.P.Denot). (p : Post g.row.P.Denot) → slice_get all.items place ≡ Some p → AreOnLines (key_of p.to) ends) c.push_reserved.new.self.items c.loop.all.items c.take.result c.loop.counter
           c.push_reserved.ensures.items count inv.ends (λ p got. subst (λ (q : Post g.row.P.Denot). AreOnLines (key_of q.to) c.take.result) (some_same post p (sym here ∙ got)) c.take.ensures);
     }
 

@@ -3,7 +3,7 @@ use Rattle.std.specs.Prelude.{slice_get}
 use Rattle.lc_lock.specs.Loans.{key_of}
 use Rattle.lc_node.specs.Keys.{AreOnLines, HasOneKey}
 use Rattle.lc_node.specs.declared.joining.Post.{Post}
-use Rattle.lc_node.specs.declared.wiring.Ends.{Ends}
+use Rattle.lc_node.specs.declared.wiring.NodeEnds.{NodeEnds}
 use Rattle.lc_node.proofs.closing_lines.take_ends.Given as goal
 
 abbrev pub invariant-loop : goal.invariant-loop
@@ -13,5 +13,5 @@ invariant-loop g l = record {
   space : vec_len l.fn.posts ≤ vec_capacity l.all;
   one_key : All HasOneKey l.posts.items;
   posts : (k : ℕ) (post : Post g.row.P.Denot) → slice_get l.posts.items k ≡ Some post → slice_get l.fn.posts.items (l.counter + k) ≡ Some post;
-  ends : (k : ℕ) (ends : Ends g.row.P.Denot) → slice_get l.all.items k ≡ Some ends → (post : Post g.row.P.Denot) → slice_get l.fn.posts.items k ≡ Some post → AreOnLines (key_of post.to) ends;
+  ends : (k : ℕ) (ends : NodeEnds g.row.P.Denot) → slice_get l.all.items k ≡ Some ends → (post : Post g.row.P.Denot) → slice_get l.fn.posts.items k ≡ Some post → AreOnLines (key_of post.to) ends;
 }

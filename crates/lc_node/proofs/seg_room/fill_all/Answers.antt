@@ -1,7 +1,7 @@
 use Rattle.std.proofs.Common.{rules, ◌≡◌, ℕ, ◌+◌, ◌<◌, Option, Some, length, refl, sym, ap, subst, ◌∙◌, arith}
 use Rattle.std.specs.Prelude.{slice_get, slice_index_or}
 use Rattle.std.proofs.lemmas.Option.{slice_get-get_or}
-use Rattle.lc_lock.specs.declared.lock.Lock.{Lock}
+use Rattle.lc_lock.specs.declared.ticket_lock.TicketLock.{TicketLock}
 use Rattle.lc_lock.specs.Loans.{key_of}
 use Rattle.lc_record.proofs.ListLemmas.{set_behind as unchanged_behind}
 use Rattle.lc_node.specs.Rooms.{FitsRoom, IsOfSegment}
@@ -24,7 +24,7 @@ loop-place-init g c = record {
       subst (λ (n : ℕ). FitsRoom g.D.Area n room area) here (c.requires.fits k room area room_is (ap (slice_get c.args.pages.now) (sym same) ∙ area_is)));
   taken = λ k within. absurd (omega (arith, within));
   rest = λ k behind. refl;
-  in_order = each_none (λ k (lock : Lock (SegView g.row.D.Denot) ℕ). key_of lock ≡ k + 1) c.args.locks.items c.requires.empty;
+  in_order = each_none (λ k (lock : TicketLock (SegView g.row.D.Denot) ℕ). key_of lock ≡ k + 1) c.args.locks.items c.requires.empty;
 }
 
 pub come_up-requires-clause-room : goal.come_up-requires-clause-room
@@ -73,7 +73,7 @@ loop-place-preserved g c =
           (ap (slice_get c.args.pages.now) at ∙ area_is)));
       taken = changed_more (left_at c.args.share.number c.args.share.nodes) c.args.pages.now c.loop-place.pages place stood c.take-area.new.place there c.take-area.ensures.left inv.taken inv.rest;
       rest = unchanged_behind c.args.pages.now c.loop-place.pages place c.take-area.new.place inv.rest;
-      in_order = each_more (λ k (lock : Lock (SegView g.row.D.Denot) ℕ). key_of lock ≡ k + 1) c.push_reserved.new.self.items c.loop-place.locks.items c.come_up.result place
+      in_order = each_more (λ k (lock : TicketLock (SegView g.row.D.Denot) ℕ). key_of lock ≡ k + 1) c.push_reserved.new.self.items c.loop-place.locks.items c.come_up.result place
           c.push_reserved.ensures.items (omega (arith, inv.filled, c.loop-place.locks.ok.0)) inv.in_order c.come_up.ensures;
     }
 

@@ -1,6 +1,6 @@
 use Rattle.std.proofs.Common.{◌≡◌, ℕ, ◌+◌, ◌<◌, ◌≤◌, length, Some, vec_len, vec_capacity}
 use Rattle.std.specs.Prelude.{option_map, slice_get}
-use Rattle.lc_lock.specs.declared.lock.Lock.{Lock}
+use Rattle.lc_lock.specs.declared.ticket_lock.TicketLock.{TicketLock}
 use Rattle.lc_lock.specs.Loans.{key_of}
 use Rattle.lc_node.specs.Rooms.{IsOfSegment, FitsRoom}
 use Rattle.lc_node.specs.SegView.{SegView}
@@ -19,5 +19,5 @@ invariant-loop-place g l = record {
       → FitsRoom g.D.Area ((l.place + k) + 1) room area;
   taken : (k : ℕ) → k < l.place → slice_get l.pages k ≡ option_map (left_at l.share.number l.share.nodes k) (slice_get l.initial.pages k);
   rest : (k : ℕ) → l.place ≤ k → slice_get l.pages k ≡ slice_get l.initial.pages k;
-  in_order : (k : ℕ) (lock : Lock (SegView g.row.D.Denot) ℕ) → slice_get l.locks.items k ≡ Some lock → key_of lock ≡ k + 1;
+  in_order : (k : ℕ) (lock : TicketLock (SegView g.row.D.Denot) ℕ) → slice_get l.locks.items k ≡ Some lock → key_of lock ≡ k + 1;
 }

@@ -2,7 +2,7 @@ use Rattle.std.proofs.Common.{◌<◌, length, set, refl, sym, ap, ◌∙◌, ar
 use Rattle.std.proofs.lemmas.List.{length-set as length_set}
 use Rattle.lc_line.specs.Ends.{sent_on, taken_from, line_to, line_from}
 use Rattle.lc_record.proofs.ListLemmas.{slice_get-set_other as get_other}
-use Rattle.lc_node.specs.declared.wiring.Ends.{Ends}
+use Rattle.lc_node.specs.declared.wiring.NodeEnds.{NodeEnds}
 use Rattle.lc_node.proofs.Backwards.{got_at}
 use Rattle.lc_node.proofs.Wired.{one_line_more}
 use Rattle.lc_node.proofs.wiring.connect.Goals as goal
@@ -11,8 +11,8 @@ pub returns-clause-wired : goal.returns-clause-wired
 returns-clause-wired g c = λ nodes wired.
     let all = c.args.all.now.items in let from = c.args.from in let to = c.args.to in
     let sender = c.index_mut-sender.result.now in let receiver = c.index_mut-receiver.result.now in
-    let sender_new : Ends g.row.P.Denot = record { to = record { ends = c.push.new.self }; from = sender.from } in
-    let receiver_new : Ends g.row.P.Denot = record { to = receiver.to; from = record receiver.from { ends = c.push-2.new.self } } in
+    let sender_new : NodeEnds g.row.P.Denot = record { to = record { ends = c.push.new.self }; from = sender.from } in
+    let receiver_new : NodeEnds g.row.P.Denot = record { to = receiver.to; from = record receiver.from { ends = c.push-2.new.self } } in
     let within : to < length (set all from sender_new) = (let l = length_set all from sender_new in let t = c.requires.to in omega arith) in
     one_line_more from to all c.new.result c.new-2.result sender receiver sender_new receiver_new c.requires.differ
     (got_at all from sender c.index_mut-sender.ensures.value c.requires.from)

@@ -1,10 +1,10 @@
 use Rattle.std.proofs.Common.{rules, sym, ap, ◌∙◌, arith}
-use Rattle.lc_node.specs.declared.wiring.Ends.{Ends}
+use Rattle.lc_node.specs.declared.wiring.NodeEnds.{NodeEnds}
 use Rattle.lc_node.proofs.Wired.{HasNone, all_pushed, none_wired, numbered_more}
 use Rattle.lc_node.proofs.wiring.unwired.Goals as goal
 
 pub loop-node-preserved : goal.loop-node-preserved
-loop-node-preserved g c = let inv = c.loop-node.invariant in let all = c.loop-node.all.items in let mine : Ends g.row.P.Denot = record { to = c.new-to.result; from = c.new-from.result } in record {
+loop-node-preserved g c = let inv = c.loop-node.invariant in let all = c.loop-node.all.items in let mine : NodeEnds g.row.P.Denot = record { to = c.new-to.result; from = c.new-from.result } in record {
   count = search rules;
   room = search rules;
   numbers = numbered_more c.push_reserved.new.self.items all mine c.push_reserved.ensures.items (c.new-from.ensures.node ∙ sym inv.count) inv.numbers;

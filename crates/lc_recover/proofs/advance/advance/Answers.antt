@@ -5,9 +5,9 @@ use Rattle.lc_recover.proofs.Going.{all-read, merged-now, read-now}
 use Rattle.lc_recover.proofs.ReadLemmas.{count-read}
 use Rattle.lc_recover.specs.KeptAreas.{IsReadWhole, read_count}
 use Rattle.lc_recover.specs.Reads.{AreHonest}
-use Rattle.lc_recover.specs.declared.stage.Stage.{Stage}
+use Rattle.lc_recover.specs.declared.recovery_phase.RecoveryPhase.{RecoveryPhase}
 use Rattle.lc_recover.specs.declared.stopped.Stopped.{Stopped}
-use Rattle.lc_recover.specs.declared.stage.Stage.TheVariants.{Reading}
+use Rattle.lc_recover.specs.declared.recovery_phase.RecoveryPhase.TheVariants.{Reading}
 use Rattle.lc_recover.specs.Recovery.{recovering, IsGoing, MakesItsCall}
 use Rattle.lc_recover.proofs.advance.advance.Given.{Over}
 use Rattle.lc_recover.proofs.advance.advance.Goals as goal
@@ -22,7 +22,7 @@ if_err (Err e) P Q holds leads = leads e holds
 
 module _ (g : Over) (c : goal.After-merge_step g) where
   going : IsGoing g.D.Area c.args.geometry.now (Reading c.in-Reading.read) c.args.areas.now
-  going = subst (λ (s : Stage). IsGoing g.D.Area c.args.geometry.now s c.args.areas.now) c.in-Reading.is c.requires.going
+  going = subst (λ (s : RecoveryPhase). IsGoing g.D.Area c.args.geometry.now s c.args.areas.now) c.in-Reading.is c.requires.going
 
   all : read_count c.in-Reading.read ≡ length c.args.areas.now
   all = omega (arith, c.if-count-areas.false, c.count.ensures, count-read c.args.geometry.now going.fits.1.0 c.in-Reading.read going.fits.1.2, going.fits.0.count, going.fits.1.1.count)
@@ -68,7 +68,7 @@ returns-else-count-areas-clause-no_memory_merged g c =
 pub count-requires : goal.count-requires
 count-requires g c =
     let going : IsGoing g.D.Area c.args.geometry.now (Reading c.in-Reading.read) c.args.areas.now =
-    subst (λ (s : Stage). IsGoing g.D.Area c.args.geometry.now s c.args.areas.now) c.in-Reading.is c.requires.going in
+    subst (λ (s : RecoveryPhase). IsGoing g.D.Area c.args.geometry.now s c.args.areas.now) c.in-Reading.is c.requires.going in
     omega (arith, count-read c.args.geometry.now going.fits.1.0 c.in-Reading.read going.fits.1.2, going.fits.1.1.count, c.args.geometry.now.few_nodes, c.args.geometry.now.few_segments)
 
 pub returns-in_err-write_step-in-Writing-clause-failed : goal.returns-in_err-write_step-in-Writing-clause-failed
@@ -76,7 +76,7 @@ returns-in_err-write_step-in-Writing-clause-failed g c =
     let p = err_from_is_err_and c.from_residual-in_err-write_step-in-Writing.result c.from_residual-in_err-write_step-in-Writing.ensures.1 in
     rw p.1 (λ not_merge. inr (
       ap (λ (s : Stopped). s.fault) p.2,
-      subst (λ (s : Stage). MakesItsCall g.D.Area (recovering c.args.geometry.now c.args.areas.now s) c.write_step.new.areas false) (sym c.in-Writing.is) c.in_err-write_step-in-Writing.ensures.call,
+      subst (λ (s : RecoveryPhase). MakesItsCall g.D.Area (recovering c.args.geometry.now c.args.areas.now s) c.write_step.new.areas false) (sym c.in-Writing.is) c.in_err-write_step-in-Writing.ensures.call,
     ))
 
 pub returns-in_err-reset_step-in-Resetting-clause-failed : goal.returns-in_err-reset_step-in-Resetting-clause-failed
@@ -84,13 +84,13 @@ returns-in_err-reset_step-in-Resetting-clause-failed g c =
     let p = err_from_is_err_and c.from_residual-in_err-reset_step-in-Resetting.result c.from_residual-in_err-reset_step-in-Resetting.ensures.1 in
     rw p.1 (λ not_merge. inr (
       ap (λ (s : Stopped). s.fault) p.2,
-      subst (λ (s : Stage). MakesItsCall g.D.Area (recovering c.args.geometry.now c.args.areas.now s) c.reset_step.new.areas false) (sym c.in-Resetting.is) c.in_err-reset_step-in-Resetting.ensures.call,
+      subst (λ (s : RecoveryPhase). MakesItsCall g.D.Area (recovering c.args.geometry.now c.args.areas.now s) c.reset_step.new.areas false) (sym c.in-Resetting.is) c.in_err-reset_step-in-Resetting.ensures.call,
     ))
 
 pub returns-in_ok-write_step-in-Writing-clause-called : goal.returns-in_ok-write_step-in-Writing-clause-called
 returns-in_ok-write_step-in-Writing-clause-called g c not_merge =
-    subst (λ (s : Stage). MakesItsCall g.D.Area (recovering c.args.geometry.now c.args.areas.now s) c.write_step.new.areas true) (sym c.in-Writing.is) c.in_ok-write_step-in-Writing.ensures.call
+    subst (λ (s : RecoveryPhase). MakesItsCall g.D.Area (recovering c.args.geometry.now c.args.areas.now s) c.write_step.new.areas true) (sym c.in-Writing.is) c.in_ok-write_step-in-Writing.ensures.call
 
 pub returns-in_ok-reset_step-in-Resetting-clause-called : goal.returns-in_ok-reset_step-in-Resetting-clause-called
 returns-in_ok-reset_step-in-Resetting-clause-called g c not_merge =
-    subst (λ (s : Stage). MakesItsCall g.D.Area (recovering c.args.geometry.now c.args.areas.now s) c.reset_step.new.areas true) (sym c.in-Resetting.is) c.in_ok-reset_step-in-Resetting.ensures.call
+    subst (λ (s : RecoveryPhase). MakesItsCall g.D.Area (recovering c.args.geometry.now c.args.areas.now s) c.reset_step.new.areas true) (sym c.in-Resetting.is) c.in_ok-reset_step-in-Resetting.ensures.call

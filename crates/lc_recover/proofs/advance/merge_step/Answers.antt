@@ -4,14 +4,14 @@ use Rattle.lc_recover.specs.KeptAreas.{IsReadWhole}
 use Rattle.lc_recover.specs.Merging.{IsMergedFrom}
 use Rattle.lc_recover.specs.Reads.{area_count}
 use Rattle.lc_recover.specs.Steps.{all_pages}
-use Rattle.lc_recover.specs.declared.kept.Kept.{Kept}
+use Rattle.lc_recover.specs.declared.store_contents.StoreContents.{StoreContents}
 use Rattle.lc_recover.specs.declared.page_writes.PageWrites.{PageWrites}
 use Rattle.lc_recover.proofs.AreaLemmas.{begins}
 use Rattle.lc_recover.proofs.Going.{all-read}
 use Rattle.lc_recover.proofs.MergedFits.{merged-fit, merged-stage, merged-few}
 use Rattle.lc_recover.proofs.MergeStep.{few-logs, few-segments, few-pages, its-store, to-write, merged-from}
 use Rattle.lc_recover.proofs.StoppedFits.{stopped-fits, same-read}
-use Rattle.lc_recover.specs.declared.stage.Stage.TheVariants.{Reading}
+use Rattle.lc_recover.specs.declared.recovery_phase.RecoveryPhase.TheVariants.{Reading}
 use Rattle.lc_recover.proofs.advance.merge_step.Given.{Over}
 use Rattle.lc_recover.proofs.advance.merge_step.Goals as goal
 
@@ -31,7 +31,7 @@ module _ (g : Over) (c : goal.After-new g) where
   from : (areas : List (List ℕ)) → IsReadWhole c.args.geometry.now areas c.args.read → IsMergedFrom c.args.geometry.now areas c.new.result
   from areas whole =
       let same : (record { kept = c.args.read.kept; merged = record { numbers = c.merge.new.read.numbers; changes = c.in-Ok.changes }; next = 0; written = 0; current = None }) ≡ c.new.result =
-      ap (λ (k : Kept). let w : PageWrites = record { kept = k; merged = record { numbers = c.merge.new.read.numbers; changes = c.in-Ok.changes }; next = 0; written = 0; current = None } in w) (sym c.merge.ensures.kept) ∙ sym c.new.ensures in
+      ap (λ (k : StoreContents). let w : PageWrites = record { kept = k; merged = record { numbers = c.merge.new.read.numbers; changes = c.in-Ok.changes }; next = 0; written = 0; current = None } in w) (sym c.merge.ensures.kept) ∙ sym c.new.ensures in
       subst (λ (w : PageWrites). IsMergedFrom c.args.geometry.now areas w) same
       (merged-from c.args.geometry.now areas c.args.read whole c.merge.new.read.numbers c.in-Ok.changes c.in-Ok.ensures.merged)
 
@@ -61,11 +61,11 @@ returns-in-Err-clause-stopped g c =
     (begins g.D.Area c.args.geometry.now (Reading c.args.read) c.args.areas.now c.requires.fits.0)
     (λ wants. (
       refl,
-      same-read g.D.Area c.args.geometry.now c.args.areas.now c.args.read c.merge.new.read (ap (λ (k : Kept). k.logs.items) c.merge.ensures.kept) (ap (λ (k : Kept). k.segments.items) c.merge.ensures.kept)
+      same-read g.D.Area c.args.geometry.now c.args.areas.now c.args.read c.merge.new.read (ap (λ (k : StoreContents). k.logs.items) c.merge.ensures.kept) (ap (λ (k : StoreContents). k.segments.items) c.merge.ensures.kept)
           c.in-Err.ensures.counted c.requires.fits,
     ))
     tt refl refl refl
-    (λ wants. ap (λ (k : Kept). area_count c.args.geometry.now + (length k.logs.items + length k.segments.items)) c.merge.ensures.kept)
+    (λ wants. ap (λ (k : StoreContents). area_count c.args.geometry.now + (length k.logs.items + length k.segments.items)) c.merge.ensures.kept)
     (λ wants. c.new-in-Err.ensures.kept (sym c.new-in-Err.ensures.fault ∙ wants))
     (λ other. c.new-in-Err.ensures.again (λ wants. other (c.new-in-Err.ensures.fault ∙ wants)))
 

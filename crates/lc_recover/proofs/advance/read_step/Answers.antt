@@ -4,8 +4,8 @@ use Rattle.lc_recover.proofs.ReadLemmas.{same-counted}
 use Rattle.lc_recover.proofs.StoppedFits.{stopped-fits, same-read}
 use Rattle.lc_recover.specs.KeptAreas.{read_count}
 use Rattle.lc_recover.specs.Reads.{area_count}
-use Rattle.lc_recover.specs.Stage.{Fits}
-use Rattle.lc_recover.specs.declared.stage.Stage.TheVariants.{Reading}
+use Rattle.lc_recover.specs.RecoveryPhase.{Fits}
+use Rattle.lc_recover.specs.declared.recovery_phase.RecoveryPhase.TheVariants.{Reading}
 use Rattle.lc_recover.proofs.advance.read_step.Goals as goal
 
 pub read_area-requires-clause-areas : goal.read_area-requires-clause-areas

@@ -2,7 +2,7 @@ use Rattle.std.proofs.Common.{refl, subst, Bool}
 use Rattle.lc_recover.proofs.AreaLemmas.{not_ok}
 use Rattle.lc_recover.proofs.Calling.{resetting-calls}
 use Rattle.lc_recover.proofs.Keeping.{resets-keep, resets-end}
-use Rattle.lc_recover.specs.Stage.{OneCall}
+use Rattle.lc_recover.specs.RecoveryPhase.{OneCall}
 use Rattle.lc_recover.proofs.advance.reset_step.Goals as goal
 
 pub returns-in_err-reset_next-clause-merges : goal.returns-in_err-reset_next-clause-merges

@@ -3,7 +3,7 @@ use Rattle.lc_recover.proofs.AreaLemmas.{not_ok}
 use Rattle.lc_recover.proofs.Calling.{writing-calls, begun-calls, left-or_end}
 use Rattle.lc_recover.proofs.Keeping.{writes-keep}
 use Rattle.lc_recover.proofs.PageEnd.{end-done, end-pages, writes-end, writes-rest, end-steps}
-use Rattle.lc_recover.specs.Stage.{OneCall}
+use Rattle.lc_recover.specs.RecoveryPhase.{OneCall}
 use Rattle.lc_recover.proofs.advance.write_step.Goals as goal
 
 pub reset_step-requires-clause-fits : goal.reset_step-requires-clause-fits

@@ -4,7 +4,7 @@ use Rattle.lc_record.specs.GrammarVersion.{end_of}
 use Rattle.lc_record.proofs.ListLemmas.{OnErr_from as on_err}
 use Rattle.lc_model.specs.Merge.{Page}
 use Rattle.lc_recover.specs.Pages.{kept_pages}
-use Rattle.lc_recover.specs.Changes.{HasOf, seat, Seat}
+use Rattle.lc_recover.specs.Changes.{HasOf, seat, PlacedRecord}
 use Rattle.lc_recover.proofs.SpanWalks.{range-next, placed-next, reached-next, reached-all}
 use Rattle.lc_recover.proofs.Pushes.{SpanAdded, span-added, range-some, range-ends, span-newer, covers-more, covers-nothing, covers-all}
 use Rattle.lc_recover.proofs.index.add_record.Goals as goal
@@ -18,7 +18,7 @@ add_range-requires c =
 pub loop-placed-preserved-in_default : goal.loop-placed-preserved-in_default
 loop-placed-preserved-in_default c =
     let pages : List (List Page) = map kept_pages c.args.segments.now in
-    let s : Seat = seat c.args.log c.args.place c.args.view.now in
+    let s : PlacedRecord = seat c.args.log c.args.place c.args.view.now in
     let changes = c.loop-placed.changes.items in
     let reached = c.loop-placed.invariant.covers in
     let there = placed-next _ c.args.view.now _ _ c.in-Some.placed c.in-Some.ensures.steps reached in
@@ -31,7 +31,7 @@ loop-placed-preserved-in_default c =
 pub loop-placed-preserved : goal.loop-placed-preserved
 loop-placed-preserved c =
     let pages : List (List Page) = map kept_pages c.args.segments.now in
-    let s : Seat = seat c.args.log c.args.place c.args.view.now in
+    let s : PlacedRecord = seat c.args.log c.args.place c.args.view.now in
     let reached = c.loop-placed.invariant.covers in
     let at = range-next _ c.args.view.now _ _ c.in-Some.placed c.in-Some.ensures.steps reached in
     let there = placed-next _ c.args.view.now _ _ c.in-Some.placed c.in-Some.ensures.steps reached in
@@ -52,7 +52,7 @@ returns-clause-covers c =
 pub returns-in_err-add_range-clause-memory : goal.returns-in_err-add_range-clause-memory
 returns-in_err-add_range-clause-memory c =
     let pages : List (List Page) = map kept_pages c.args.segments.now in
-    let s : Seat = seat c.args.log c.args.place c.args.view.now in
+    let s : PlacedRecord = seat c.args.log c.args.place c.args.view.now in
     let reached = c.loop-placed.invariant.covers in
     let at = range-next _ c.args.view.now _ _ c.in-Some.placed c.in-Some.ensures.steps reached in
     let there = placed-next _ c.args.view.now _ _ c.in-Some.placed c.in-Some.ensures.steps reached in

@@ -3,7 +3,7 @@ use Rattle.std.specs.Prelude.{slice_get}
 use Rattle.std.proofs.lemmas.Option.{slice_get-get_or}
 use Rattle.lc_record.proofs.ListLemmas.{OnErr_from as on_err}
 use Rattle.lc_recover.specs.Pages.{kept_pages}
-use Rattle.lc_recover.specs.Changes.{AreOf, Seat, SomeIsOf, seats_from, seats_of}
+use Rattle.lc_recover.specs.Changes.{AreOf, PlacedRecord, SomeIsOf, seats_from, seats_of}
 use Rattle.lc_recover.proofs.Walks.{item-at}
 use Rattle.lc_recover.proofs.Newer.{seat-in}
 use Rattle.lc_recover.proofs.Seats.{seats-next}
@@ -13,7 +13,7 @@ pub loop-log-preserved : goal.loop-log-preserved
 loop-log-preserved c =
     let within : c.loop-log.log < length c.args.logs.now = omega arith in
     let words : get_or c.args.logs.now c.loop-log.log [] ≡ c.as_slice.result.now = item-at c.args.logs.now c.loop-log.log c.index-logs-log.result [] within c.index-logs-log.is ∙ sym c.as_slice.ensures in
-    subst (λ (l : List Seat). AreOf (map kept_pages c.args.segments.now) l c.add_log.new.changes.items)
+    subst (λ (l : List PlacedRecord). AreOf (map kept_pages c.args.segments.now) l c.add_log.new.changes.items)
     (sym (seats-next c.args.logs.now c.loop-log.log c.as_slice.result.now within words))
     (c.in_ok-add_log.ensures.changes (seats_from 0 (take c.loop-log.log c.args.logs.now)) c.loop-log.invariant)
 

@@ -4,16 +4,16 @@ use Rattle.std.proofs.lemmas.List.{length-map}
 use Rattle.std.specs.Prelude.{slice_get}
 use Rattle.std.proofs.lemmas.List.Sorted.{IsPermutation-trans}
 use Rattle.std.proofs.lemmas.Result.{err_from_is_err_and}
-use Rattle.lc_model.specs.Merge.{Store, AreOnce, AreOwn, AreWithin, IsLeastPair, all_records}
+use Rattle.lc_model.specs.Merge.{StoreText, AreOnce, AreOwn, AreWithin, IsLeastPair, all_records}
 use Rattle.lc_record.proofs.ListLemmas.{OnErr_from as on_err}
 use Rattle.lc_recover.specs.Changes.{SomeIsOf, seats_from}
 use Rattle.lc_recover.specs.Fault.{IsRefusal}
-use Rattle.lc_recover.specs.Kept.{HasNewer, IsFaultless, IsIndex, IsMerging}
+use Rattle.lc_recover.specs.StoreContents.{HasNewer, IsFaultless, IsIndex, IsMerging}
 use Rattle.lc_recover.specs.KeptAreas.{IsCounted}
 use Rattle.lc_recover.specs.Locks.{AreInOrder, IsMissing, IsNumbering, StandsTwice, greatest_kept, numbers_in}
 use Rattle.lc_recover.specs.Pages.{kept_pages}
 use Rattle.lc_recover.specs.Reading.{store_of}
-use Rattle.lc_recover.specs.declared.change.Change.{Change}
+use Rattle.lc_recover.specs.declared.redo_range.RedoRange.{RedoRange}
 use Rattle.lc_recover.specs.declared.fault.RecoverFault.{RecoverFault}
 use Rattle.lc_recover.specs.declared.fault.RecoverFault.TheVariants.{Gap, Twice}
 use Rattle.lc_recover.specs.declared.lock_number.LockNumber.{LockNumber}
@@ -38,7 +38,7 @@ lent-within logs logs' segments segments' one two within =
 lent-own : (logs logs' : List (List ℕ)) (segments : List SegmentPages) → logs' ≡ logs → AreOwn (store_of logs' segments) → AreOwn (store_of logs segments)
 lent-own logs logs' segments one own = subst (λ (l : List (List ℕ)). AreOwn (store_of l segments)) one own
 
-lent-index : (logs logs' : List (List ℕ)) (segments segments' : List SegmentPages) (changes : List Change) → logs' ≡ logs → segments' ≡ segments
+lent-index : (logs logs' : List (List ℕ)) (segments segments' : List SegmentPages) (changes : List RedoRange) → logs' ≡ logs → segments' ≡ segments
     → IsIndex logs' (store_of logs' segments') changes → IsIndex logs (store_of logs segments) changes
 lent-index logs logs' segments segments' changes one two index =
     subst (λ (l : List (List ℕ)). IsIndex l (store_of l segments) changes) one
@@ -50,7 +50,7 @@ returns-in_err-own-clause-refused c =
     let segments = c.args.read.now.kept.segments.items in
     let p = err_from_is_err_and c.from_residual.result c.from_residual.ensures.1 in
     rw p.1 (λ store kept.
-    subst (λ (s : Store). IsRefusal s p.0) (kept-store logs segments store kept)
+    subst (λ (s : StoreText). IsRefusal s p.0) (kept-store logs segments store kept)
     (subst (λ (f : RecoverFault). IsRefusal (store_of logs segments) f) (sym p.2)
     (subst (λ (l : List (List ℕ)). IsRefusal (store_of l segments) c.in_err-own.field-0.0) c.as_slice.ensures.value (c.in_err-own.ensures.refused segments))))
 
@@ -61,7 +61,7 @@ returns-in_err-within-clause-refused c =
     let p = err_from_is_err_and c.from_residual-in_err-within.result c.from_residual-in_err-within.ensures.1 in
     let own : AreOwn (store_of c.as_slice-2.result.now c.as_slice-3.result.now) = lent-own c.as_slice-2.result.now c.as_slice.result.now c.as_slice-3.result.now (c.as_slice.ensures.value ∙ sym c.as_slice-2.ensures.value) (c.in_ok-own.ensures.own c.as_slice-3.result.now) in
     rw p.1 (λ store kept.
-    subst (λ (s : Store). IsRefusal s p.0) (kept-store logs segments store kept)
+    subst (λ (s : StoreText). IsRefusal s p.0) (kept-store logs segments store kept)
     (subst (λ (f : RecoverFault). IsRefusal (store_of logs segments) f) (sym p.2)
     (subst (λ (l : List (List ℕ)). IsRefusal (store_of l segments) c.in_err-within.field-0.0) c.as_slice-2.ensures.value
     (subst (λ (l : List SegmentPages). IsRefusal (store_of c.as_slice-2.result.now l) c.in_err-within.field-0.0) c.as_slice-3.ensures.value (c.in_err-within.ensures.refused own)))))
@@ -82,7 +82,7 @@ returns-in_err-once-clause-refused c =
     let twice : (segment : ℕ) × (seq : ℕ) × (c.in_err-once.field-0.0 ≡ Twice segment seq) × IsLeastPair (StandsTwice c.sort_unstable.new.self.items) segment seq =
     subst (λ (l : List LockNumber). (segment : ℕ) × (seq : ℕ) × (c.in_err-once.field-0.0 ≡ Twice segment seq) × IsLeastPair (StandsTwice l) segment seq) c.as_slice-4.ensures.value c.in_err-once.ensures.twice in
     rw p.1 (λ store kept.
-    subst (λ (s : Store). IsRefusal s p.0) (kept-store logs segments store kept)
+    subst (λ (s : StoreText). IsRefusal s p.0) (kept-store logs segments store kept)
     (subst (λ (f : RecoverFault). IsRefusal (store_of logs segments) f) (sym p.2)
     (twice-refusal logs segments c.sort_unstable.new.self.items (moved c.args.read.now c.sort_unstable.new.self.items c.requires.counted c.sort_unstable.ensures.permutation) c.in_err-once.field-0.0
     (lent-own logs c.as_slice.result.now segments c.as_slice.ensures.value (c.in_ok-own.ensures.own segments))
@@ -122,7 +122,7 @@ returns-in_err-counts-clause-refused c =
     let once : (segment seq : ℕ) → StandsTwice locks segment seq → ⊥ =
     subst (λ (l : List LockNumber). (segment seq : ℕ) → StandsTwice l segment seq → ⊥) c.as_slice-4.ensures.value c.in_ok-once.ensures.once in
     rw p.1 (λ store kept.
-    subst (λ (s : Store). IsRefusal s p.0) (kept-store logs segments store kept)
+    subst (λ (s : StoreText). IsRefusal s p.0) (kept-store logs segments store kept)
     (subst (λ (f : RecoverFault). IsRefusal (store_of logs segments) f) (sym p.2)
     (gap-refusal logs segments locks are c.as_slice-5.result.now (c.as_slice-5.ensures.value ∙ c.requires.counted.numbers)
     c.in_err-counts.field-0.0 (lent-own logs c.as_slice.result.now segments c.as_slice.ensures.value (c.in_ok-own.ensures.own segments))
@@ -148,7 +148,7 @@ returns-in_err-changes-clause-no_memory c wants store kept =
     let some : SomeIsOf (map kept_pages segments) (seats_from 0 logs) =
     subst (λ (l : List (List ℕ)). SomeIsOf (map kept_pages segments) (seats_from 0 l)) c.as_slice-7.ensures.value
     (subst (λ (l : List SegmentPages). SomeIsOf (map kept_pages l) (seats_from 0 c.as_slice-7.result.now)) c.as_slice-8.ensures.value c.in_err-changes.ensures.memory) in
-    subst (λ (s : Store). IsFaultless s × HasNewer s) (kept-store logs segments store kept) (
+    subst (λ (s : StoreText). IsFaultless s × HasNewer s) (kept-store logs segments store kept) (
       record {
         own = lent-own logs c.as_slice.result.now segments c.as_slice.ensures.value (c.in_ok-own.ensures.own segments);
         lying_within = lent-within logs c.as_slice-2.result.now segments c.as_slice-3.result.now c.as_slice-2.ensures.value c.as_slice-3.ensures.value c.in_ok-within.ensures.within;
@@ -173,7 +173,7 @@ returns-clause-merged c store kept =
     let are_once : AreOnce (store_of logs segments) = once-all logs segments locks are once in
     let all : c.len-segments.result ≡ length c.as_slice-5.result.now = omega (arith, c.len-segments.ensures, ap (λ (l : List ℕ). length l) c.as_slice-5.ensures.value, c.args.read.now.numbers.ok.0) in
     let items : c.copy_from_slice.new.self.items ≡ new = c.copy_from_slice.ensures.items ∙ ap (λ (n : ℕ). take n c.in_ok-counts.counts) all in
-    subst (λ (s : Store). IsMerging logs s (record { numbers = c.copy_from_slice.new.self; changes = c.in_ok-changes.changes })) (kept-store logs segments store kept)
+    subst (λ (s : StoreText). IsMerging logs s (record { numbers = c.copy_from_slice.new.self; changes = c.in_ok-changes.changes })) (kept-store logs segments store kept)
     (record {
       own = lent-own logs c.as_slice.result.now segments c.as_slice.ensures.value (c.in_ok-own.ensures.own segments);
       lying_within = lent-within logs c.as_slice-2.result.now segments c.as_slice-3.result.now c.as_slice-2.ensures.value c.as_slice-3.ensures.value c.in_ok-within.ensures.within;

@@ -1,9 +1,9 @@
 use Rattle.std.proofs.lemmas.Option.{slice_get-get_or}
-use Rattle.lc_recover.specs.declared.change.Change.{Change}
+use Rattle.lc_recover.specs.declared.redo_range.RedoRange.{RedoRange}
 use Rattle.lc_recover.proofs.Picking.{picked}
 use Rattle.lc_recover.proofs.page.changes_of.Goals as goal
 
-no_change : Change
+no_change : RedoRange
 no_change = record { segment = 0; page = 0; seq = 0; log = 0; place = 0; words = 0; offset = 0; len = 0 }
 
 pub returns-then-change-page : goal.returns-then-change-page

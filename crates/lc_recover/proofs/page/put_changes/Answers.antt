@@ -6,7 +6,7 @@ use Rattle.lc_record.specs.Newest.{byte_from, byte_in, byte_of}
 use Rattle.lc_record.specs.Words.{bytes_of}
 use Rattle.lc_record.specs.declared.record.RangeData.{RangeData}
 use Rattle.lc_recover.specs.Page.{IsOf}
-use Rattle.lc_recover.specs.declared.change.Change.{Change}
+use Rattle.lc_recover.specs.declared.redo_range.RedoRange.{RedoRange}
 use Rattle.lc_recover.proofs.PageLemmas.{standing, all_taken, named_byte, one_range_more}
 use Rattle.lc_recover.proofs.page.put_changes.Goals as goal
 
@@ -15,8 +15,8 @@ loop-change-preserved c =
     let l = c.loop-change in
     let changes = c.args.changes.now in
     let i = l.change-index in
-    let none : Change = record { segment = 0; page = 0; seq = 0; log = 0; place = 0; words = 0; offset = 0; len = 0 } in
-    let change : Change = get_or changes i none in
+    let none : RedoRange = record { segment = 0; page = 0; seq = 0; log = 0; place = 0; words = 0; offset = 0; len = 0 } in
+    let change : RedoRange = get_or changes i none in
     let old = slice_get c.args.bytes.now in
     record {
       len = c.put_change.ensures.len;

@@ -8,7 +8,7 @@ use Rattle.lc_page.specs.declared.writing.Writing.{Writing}
 use Rattle.lc_record.proofs.ListLemmas.{IfOk_both as both-ok}
 use Rattle.lc_recover.proofs.AreaLemmas.{one-call, set-get}
 use Rattle.lc_recover.proofs.Writes.{Next, next-of, with-current, reads-kept, write-begins, rests-of, current-fits, segment-room, call-shows}
-use Rattle.lc_recover.specs.Stage.{RestsAt, IsCurrent, IsDraft}
+use Rattle.lc_recover.specs.RecoveryPhase.{RestsAt, IsCurrent, IsDraft}
 use Rattle.lc_recover.proofs.page_steps.begin_next.Given.{Over}
 use Rattle.lc_recover.proofs.page_steps.begin_next.Goals as goal
 

@@ -3,8 +3,8 @@ use Rattle.lc_page.specs.Page.{page_in}
 use Rattle.lc_page.specs.PageVector.{entry_at, entry_text}
 use Rattle.lc_page.specs.PageWrite.{SettledIn, HasPage}
 use Rattle.lc_page.specs.Writing.{IsUnderWay}
-use Rattle.lc_recover.specs.Stage.{IsWriting, IsDraft, IsNext}
-use Rattle.lc_recover.specs.declared.change.Change.{Change}
+use Rattle.lc_recover.specs.RecoveryPhase.{IsWriting, IsDraft, IsNext}
+use Rattle.lc_recover.specs.declared.redo_range.RedoRange.{RedoRange}
 use Rattle.lc_recover.specs.declared.segment_pages.SegmentPages.{SegmentPages}
 use Rattle.std.proofs.Common.{sym, ◌∙◌, ◌^◌, ap, subst, arith, get_or, IsOk, true≢false}
 use Rattle.lc_page.specs.declared.draft.Draft.{Draft}
@@ -24,7 +24,7 @@ pub index-pages-requires : goal.index-pages-requires
 index-pages-requires g c = omega (arith, c.args.writes.now.kept.segments.ok.0, lies_within c.args.geometry.now c.args.writes.now c.requires.sound c.deref.result.now c.first_page-changes.result.now (record { segment = 0; page = 0; seq = 0; log = 0; place = 0; words = 0; offset = 0; len = 0 }) c.deref.ensures.value c.requires.left c.first_page-changes.ensures)
 
 module _ (g : Over) (c : goal.After-bytes-1 g) where
-  abbrev p_change : Change
+  abbrev p_change : RedoRange
   p_change = get_or c.first_page-changes.result.now 0 (record { segment = 0; page = 0; seq = 0; log = 0; place = 0; words = 0; offset = 0; len = 0 })
 
   p_next : IsNext c.args.writes.now p_change c.index-pages.result.now
@@ -44,7 +44,7 @@ pub index-number-requires : goal.index-number-requires
 index-number-requires g c = omega (arith, c.args.writes.now.merged.numbers.ok.0, lies_below c.args.geometry.now c.args.writes.now c.requires.sound c.deref.result.now c.first_page-changes.result.now (record { segment = 0; page = 0; seq = 0; log = 0; place = 0; words = 0; offset = 0; len = 0 }) c.deref.ensures.value c.requires.left c.first_page-changes.ensures)
 
 module _ (g : Over) (c : goal.After-bytes-5-1 g) where
-  abbrev change : Change
+  abbrev change : RedoRange
   change = get_or c.first_page-changes.result.now 0 (record { segment = 0; page = 0; seq = 0; log = 0; place = 0; words = 0; offset = 0; len = 0 })
 
   near : ComesNext c.args.writes.now.merged.changes.items c.args.writes.now.next c.first_page-changes.result.now change
@@ -70,7 +70,7 @@ begin-requires-clause-seq g c =
     (small_number c.args.geometry.now c.args.writes.now c.requires.sound (change g c) (near g c).at)
 
 module _ (g : Over) (c : goal.After-begin-arg-1 g) where
-  abbrev b_change : Change
+  abbrev b_change : RedoRange
   b_change = get_or c.first_page-changes.result.now 0 (record { segment = 0; page = 0; seq = 0; log = 0; place = 0; words = 0; offset = 0; len = 0 })
 
   b_next : IsNext c.args.writes.now b_change c.index-pages.result.now
@@ -82,7 +82,7 @@ begin-requires-in-Ok g c =
     omega (arith, its_page c.args.geometry.now c.args.writes.now c.requires.sound (b_change g c) (b_next g c).change, c.requires.room, ap (λ (d : Draft). d.page) c.in-Ok.ensures.draft)
 
 module _ (g : Over) (c : After-begin g) where
-  abbrev r_change : Change
+  abbrev r_change : RedoRange
   r_change = get_or c.first_page-changes.result.now 0 (record { segment = 0; page = 0; seq = 0; log = 0; place = 0; words = 0; offset = 0; len = 0 })
 
   r_near : ComesNext c.args.writes.now.merged.changes.items c.args.writes.now.next c.first_page-changes.result.now r_change
@@ -100,7 +100,7 @@ module _ (g : Over) (c : After-begin g) where
         (newer c.args.geometry.now c.args.writes.now c.requires.sound r_change r_near.at c.index-pages.result.now r_next.kept),
   )
 
-  r_same : (d : Change) (pages : SegmentPages) → IsNext c.args.writes.now d pages → (r_change ≡ d) × (c.index-pages.result.now ≡ pages)
+  r_same : (d : RedoRange) (pages : SegmentPages) → IsNext c.args.writes.now d pages → (r_change ≡ d) × (c.index-pages.result.now ≡ pages)
   r_same d pages is = only_next c.args.writes.now r_change d c.index-pages.result.now pages r_next is
 
 module _ (g : Over) (c : After-begin g) (i : IsWriting c.args.geometry.now c.args.writes.now) where
@@ -124,9 +124,9 @@ returns-in-Ok-begin-clause-drafted g c i d pages is =
     let same : r_change g after ≡ d = (r_same g after d pages is).0 in
     subst (λ (e : Draft). IsDraft i.content i.numbers d e) (sym (c.in-Ok-begin.ensures.draft ∙ c.in-Ok.ensures.draft))
     (record {
-      page = ap (λ (e : Change). e.page) same;
-      seq = number_is g after i ∙ ap (λ (e : Change). i.numbers e.segment) same;
-      bytes = put_there g after i ∙ ap (λ (e : Change). page_bytes e.segment e.page i.content) same;
+      page = ap (λ (e : RedoRange). e.page) same;
+      seq = number_is g after i ∙ ap (λ (e : RedoRange). i.numbers e.segment) same;
+      bytes = put_there g after i ∙ ap (λ (e : RedoRange). page_bytes e.segment e.page i.content) same;
     })
 
 pub returns-in-Ok-begin-clause-begun : goal.returns-in-Ok-begin-clause-begun
@@ -134,7 +134,7 @@ returns-in-Ok-begin-clause-begun g c d pages is =
     let after = (goal.at.returns-in-Ok-begin-clause-begun g c).After-begin in
     let same = r_same g after d pages is in
     subst (λ (ps : SegmentPages). SettledIn g.D.Area c.args.area.now d.page (entry_text (entry_at ps.texts d.page)) → IsUnderWay g.D.Area c.begin-in-Ok.new.area c.in-Ok-begin.write (entry_text (entry_at ps.texts d.page)) (page_in (g.D.Area.now c.args.area.now) d.page)) same.1
-    (subst (λ (e : Change). SettledIn g.D.Area c.args.area.now e.page (entry_text (entry_at c.index-pages.result.now.texts e.page)) → IsUnderWay g.D.Area c.begin-in-Ok.new.area c.in-Ok-begin.write (entry_text (entry_at c.index-pages.result.now.texts e.page)) (page_in (g.D.Area.now c.args.area.now) e.page)) same.0
+    (subst (λ (e : RedoRange). SettledIn g.D.Area c.args.area.now e.page (entry_text (entry_at c.index-pages.result.now.texts e.page)) → IsUnderWay g.D.Area c.begin-in-Ok.new.area c.in-Ok-begin.write (entry_text (entry_at c.index-pages.result.now.texts e.page)) (page_in (g.D.Area.now c.args.area.now) e.page)) same.0
     (subst (λ (p : ℕ). SettledIn g.D.Area c.args.area.now p (entry_text (entry_at c.index-pages.result.now.texts (r_change g after).page)) → IsUnderWay g.D.Area c.begin-in-Ok.new.area c.in-Ok-begin.write (entry_text (entry_at c.index-pages.result.now.texts (r_change g after).page)) (page_in (g.D.Area.now c.args.area.now) p)) (ap (λ (e : Draft). e.page) c.in-Ok.ensures.draft)
     (c.in-Ok-begin.ensures.under_way (entry_text (entry_at c.index-pages.result.now.texts (r_change g after).page)) c.in-Ok.ensures.begun)))
 
@@ -143,14 +143,14 @@ returns-in-Ok-begin-clause-page g c d pages is =
     let after = (goal.at.returns-in-Ok-begin-clause-page g c).After-begin in
     let same = r_same g after d pages is in
     subst (λ (ps : SegmentPages). SettledIn g.D.Area c.args.area.now d.page (entry_text (entry_at ps.texts d.page)) → HasPage g.D.Area c.begin-in-Ok.new.area d.page (λ page. page ≡ page_in (g.D.Area.now c.args.area.now) d.page)) same.1
-    (subst (λ (e : Change). SettledIn g.D.Area c.args.area.now e.page (entry_text (entry_at c.index-pages.result.now.texts e.page)) → HasPage g.D.Area c.begin-in-Ok.new.area e.page (λ page. page ≡ page_in (g.D.Area.now c.args.area.now) e.page)) same.0
+    (subst (λ (e : RedoRange). SettledIn g.D.Area c.args.area.now e.page (entry_text (entry_at c.index-pages.result.now.texts e.page)) → HasPage g.D.Area c.begin-in-Ok.new.area e.page (λ page. page ≡ page_in (g.D.Area.now c.args.area.now) e.page)) same.0
     (subst (λ (p : ℕ). SettledIn g.D.Area c.args.area.now p (entry_text (entry_at c.index-pages.result.now.texts (r_change g after).page)) → HasPage g.D.Area c.begin-in-Ok.new.area p (λ page. page ≡ page_in (g.D.Area.now c.args.area.now) p)) (ap (λ (e : Draft). e.page) c.in-Ok.ensures.draft)
     (c.begin-in-Ok.ensures.page (entry_text (entry_at c.index-pages.result.now.texts (r_change g after).page)) c.in-Ok.ensures.begun)))
 
 pub returns-in-Ok-begin-clause-others : goal.returns-in-Ok-begin-clause-others
 returns-in-Ok-begin-clause-others g c d pages is page differ =
     let same = r_same g (goal.at.returns-in-Ok-begin-clause-others g c).After-begin d pages is in
-    c.begin-in-Ok.ensures.others page (λ beside. differ (beside ∙ ap (λ (e : Draft). e.page) c.in-Ok.ensures.draft ∙ ap (λ (e : Change). e.page) same.0))
+    c.begin-in-Ok.ensures.others page (λ beside. differ (beside ∙ ap (λ (e : Draft). e.page) c.in-Ok.ensures.draft ∙ ap (λ (e : RedoRange). e.page) same.0))
 
 -- The device has failed.
 
@@ -159,14 +159,14 @@ returns-in-Err-begin-clause-page g c d pages is =
     let after = (goal.at.returns-in-Err-begin-clause-page g c).After-begin in
     let same = r_same g after d pages is in
     subst (λ (ps : SegmentPages). SettledIn g.D.Area c.args.area.now d.page (entry_text (entry_at ps.texts d.page)) → HasPage g.D.Area c.begin-in-Ok.new.area d.page (λ page. page ≡ page_in (g.D.Area.now c.args.area.now) d.page)) same.1
-    (subst (λ (e : Change). SettledIn g.D.Area c.args.area.now e.page (entry_text (entry_at c.index-pages.result.now.texts e.page)) → HasPage g.D.Area c.begin-in-Ok.new.area e.page (λ page. page ≡ page_in (g.D.Area.now c.args.area.now) e.page)) same.0
+    (subst (λ (e : RedoRange). SettledIn g.D.Area c.args.area.now e.page (entry_text (entry_at c.index-pages.result.now.texts e.page)) → HasPage g.D.Area c.begin-in-Ok.new.area e.page (λ page. page ≡ page_in (g.D.Area.now c.args.area.now) e.page)) same.0
     (subst (λ (p : ℕ). SettledIn g.D.Area c.args.area.now p (entry_text (entry_at c.index-pages.result.now.texts (r_change g after).page)) → HasPage g.D.Area c.begin-in-Ok.new.area p (λ page. page ≡ page_in (g.D.Area.now c.args.area.now) p)) (ap (λ (e : Draft). e.page) c.in-Ok.ensures.draft)
     (c.begin-in-Ok.ensures.page (entry_text (entry_at c.index-pages.result.now.texts (r_change g after).page)) c.in-Ok.ensures.begun)))
 
 pub returns-in-Err-begin-clause-others : goal.returns-in-Err-begin-clause-others
 returns-in-Err-begin-clause-others g c d pages is page differ =
     let same = r_same g (goal.at.returns-in-Err-begin-clause-others g c).After-begin d pages is in
-    c.begin-in-Ok.ensures.others page (λ beside. differ (beside ∙ ap (λ (e : Draft). e.page) c.in-Ok.ensures.draft ∙ ap (λ (e : Change). e.page) same.0))
+    c.begin-in-Ok.ensures.others page (λ beside. differ (beside ∙ ap (λ (e : Draft). e.page) c.in-Ok.ensures.draft ∙ ap (λ (e : RedoRange). e.page) same.0))
 
 -- The write does not fail to begin otherwise.
 

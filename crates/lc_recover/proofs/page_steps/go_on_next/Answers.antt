@@ -15,8 +15,8 @@ use Rattle.lc_page.specs.declared.writing.Writing.{Writing}
 use Rattle.lc_recover.proofs.AreaLemmas.{one-call, not_ok}
 use Rattle.lc_recover.proofs.Begins.{long_page}
 use Rattle.lc_recover.proofs.Writes.{Next, next-of, with-current, with-none, as_kept, write-begins, current-of, goes-on-fits, over-fits, none-of, some-of, same-draft, segment-room, goes-on-shows}
-use Rattle.lc_recover.specs.Stage.{IsCurrent, IsDraft}
-use Rattle.lc_recover.specs.declared.change.Change.{Change}
+use Rattle.lc_recover.specs.RecoveryPhase.{IsCurrent, IsDraft}
+use Rattle.lc_recover.specs.declared.redo_range.RedoRange.{RedoRange}
 use Rattle.lc_recover.specs.declared.page_writes.PageWrites.{PageWrites}
 use Rattle.lc_recover.proofs.page_steps.go_on_next.Given.{Over}
 use Rattle.lc_recover.proofs.page_steps.go_on_next.Goals as goal
@@ -40,7 +40,7 @@ module _ (g : Over) (c : goal.After-index-areas-place g) where
   draft : IsDraft c.requires.fits.1.content c.requires.fits.1.numbers next.its (draft_of c.args.write)
   draft =
       let d = c.requires.fits.1.drafts c.args.write refl in
-      subst (λ (x : Change). IsDraft c.requires.fits.1.content c.requires.fits.1.numbers x (draft_of c.args.write)) (one_item d.0 next.its (sym d.1 ∙ next.is.change)) d.2
+      subst (λ (x : RedoRange). IsDraft c.requires.fits.1.content c.requires.fits.1.numbers x (draft_of c.args.write)) (one_item d.0 next.its (sym d.1 ∙ next.is.change)) d.2
 
   current : IsCurrent w next.its.segment next.its.page c.args.write
   current = (refl, (next.its, next.is.change, refl), draft.page)
@@ -96,7 +96,7 @@ settle_page-requires-clause-drafted g c =
     let none = none-of c.in_ok-writes.field-0 c.if-is_none.ensures in
     with-none c.args.geometry.now w i c.in_ok-writes.field-0 none c.draft.result.now (λ its is.
     subst (λ (x : Draft). IsDraft i.content i.numbers its x) (sym c.draft.ensures)
-    (subst (λ (x : Change). IsDraft i.content i.numbers x (draft_of c.args.write)) (one_item d.0 its (sym d.1 ∙ is)) d.2))
+    (subst (λ (x : RedoRange). IsDraft i.content i.numbers x (draft_of c.args.write)) (one_item d.0 its (sym d.1 ∙ is)) d.2))
 
 pub returns-else-is_none-clause-fits : goal.returns-else-is_none-clause-fits
 returns-else-is_none-clause-fits g c =
@@ -108,7 +108,7 @@ returns-else-is_none-clause-fits g c =
     let here : c.args.place + 1 ≡ c.args.geometry.now.nodes + n.its.segment = c.requires.here n.its n.pages (record { change = n.is.change; segment = n.is.segment; kept = n.is.kept }) in
     let d = i.drafts c.args.write refl in
     let draft : IsDraft i.content i.numbers n.its (draft_of c.args.write) =
-    subst (λ (x : Change). IsDraft i.content i.numbers x (draft_of c.args.write)) (one_item d.0 n.its (sym d.1 ∙ n.is.change)) d.2 in
+    subst (λ (x : RedoRange). IsDraft i.content i.numbers x (draft_of c.args.write)) (one_item d.0 n.its (sym d.1 ∙ n.is.change)) d.2 in
     let current : IsCurrent w n.its.segment n.its.page c.args.write = (refl, (n.its, n.is.change, refl), draft.page) in (
       goes-on-fits g.D.Area c.args.geometry.now w c.args.areas.now c.args.place old c.go_on.new.area was c.requires.fits.0 c.go_on.ensures.device.honest c.go_on.ensures.device.same_length c.go_on.ensures.bytes
           n.its n.pages n.is here c.args.write current
@@ -128,7 +128,7 @@ returns-then-is_none-clause-fits g c =
     let here : c.args.place + 1 ≡ c.args.geometry.now.nodes + n.its.segment = c.requires.here n.its n.pages (record { change = n.is.change; segment = n.is.segment; kept = n.is.kept }) in
     let d = i.drafts c.args.write refl in
     let draft : IsDraft i.content i.numbers n.its (draft_of c.args.write) =
-    subst (λ (x : Change). IsDraft i.content i.numbers x (draft_of c.args.write)) (one_item d.0 n.its (sym d.1 ∙ n.is.change)) d.2 in
+    subst (λ (x : RedoRange). IsDraft i.content i.numbers x (draft_of c.args.write)) (one_item d.0 n.its (sym d.1 ∙ n.is.change)) d.2 in
     let current : IsCurrent w n.its.segment n.its.page c.args.write = (refl, (n.its, n.is.change, refl), draft.page) in
     let none : c.in_ok-writes.field-0 ≡ None = none-of c.in_ok-writes.field-0 c.if-is_none.ensures in
     let its = c.settle_page.ensures.settled.segments n.its n.pages (record { change = n.is.change; segment = n.is.segment; kept = n.is.kept }) in
@@ -190,7 +190,7 @@ returns-then-is_none-clause-keeps g c honest =
     let n = next-of c.args.geometry.now w i c.requires.left in
     let d = i.drafts c.args.write refl in
     let draft : IsDraft i.content i.numbers n.its (draft_of c.args.write) =
-    subst (λ (x : Change). IsDraft i.content i.numbers x (draft_of c.args.write)) (one_item d.0 n.its (sym d.1 ∙ n.is.change)) d.2 in
+    subst (λ (x : RedoRange). IsDraft i.content i.numbers x (draft_of c.args.write)) (one_item d.0 n.its (sym d.1 ∙ n.is.change)) d.2 in
     let its = c.settle_page.ensures.settled.segments n.its n.pages (record { change = n.is.change; segment = n.is.segment; kept = n.is.kept }) in
     let entries = i.pages.entries (n.its.segment - 1) n.pages n.is.kept in
     let bytes = i.pages.bytes (n.its.segment - 1) n.pages n.is.kept in

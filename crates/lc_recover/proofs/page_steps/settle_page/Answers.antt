@@ -1,7 +1,7 @@
 use Rattle.std.proofs.Common.{◌≡◌, ◌*◌, ◌<◌, length, ◌-◌, slice_set}
 use Rattle.lc_page.specs.PageVector.{entry_at}
-use Rattle.lc_recover.specs.Stage.{IsDraft, IsNext}
-use Rattle.lc_recover.specs.declared.change.Change.{Change}
+use Rattle.lc_recover.specs.RecoveryPhase.{IsDraft, IsNext}
+use Rattle.lc_recover.specs.declared.redo_range.RedoRange.{RedoRange}
 use Rattle.lc_recover.specs.declared.segment_pages.SegmentPages.{SegmentPages}
 use Rattle.std.proofs.Common.{◌+◌, ◌∷◌, drop, refl, sym, ◌∙◌, ap, subst, arith, get_or}
 use Rattle.std.proofs.lemmas.Option.{same_Some as one_item}
@@ -26,7 +26,7 @@ index_mut-requires c =
     )
 
 module _ (c : goal.After-index_mut) where
-  abbrev changing : Change
+  abbrev changing : RedoRange
   changing = get_or c.first_page-changes.result.now 0 (record { segment = 0; page = 0; seq = 0; log = 0; place = 0; words = 0; offset = 0; len = 0 })
 
   near : ComesNext c.args.writes.now.merged.changes.items c.args.writes.now.next c.first_page-changes.result.now changing
@@ -51,7 +51,7 @@ pub overflow_add-writes-2 : goal.overflow_add-writes-2
 overflow_add-writes-2 c = omega (arith, c.requires.drafted.0.few, c.requires.left, c.deref.type_inv.0, ap length c.deref.ensures.value)
 
 module _ (c : goal.After-writes-3-1) where
-  abbrev settling : Change
+  abbrev settling : RedoRange
   settling = get_or c.first_page-changes.result.now 0 (record { segment = 0; page = 0; seq = 0; log = 0; place = 0; words = 0; offset = 0; len = 0 })
 
   coming : ComesNext c.args.writes.now.merged.changes.items c.args.writes.now.next c.first_page-changes.result.now settling
@@ -79,7 +79,7 @@ returns-clause-settled c = record {
   segments = λ d pages is.
       let same = only_next c.args.writes.now (settling c) d c.index_mut.result.now pages (its c) is in (
         c.renew.new.self,
-        ap (λ (e : Change). slice_set c.args.writes.now.kept.segments.items (e.segment - 1) c.renew.new.self) same.0,
+        ap (λ (e : RedoRange). slice_set c.args.writes.now.kept.segments.items (e.segment - 1) c.renew.new.self) same.0,
         subst (λ (p : SegmentPages). c.renew.new.self.texts ≡ slice_set p.texts c.args.draft.now.page (settled (entry_at p.texts c.args.draft.now.page) c.args.draft.now.seq)) same.1 c.renew.ensures.texts,
         subst (λ (p : SegmentPages). c.renew.new.self.bytes.items ≡ overlaid p.bytes.items (c.args.draft.now.page * 256) c.args.draft.now.bytes) same.1 c.renew.ensures.bytes,
       );
@@ -90,6 +90,6 @@ returns-clause-pages c = pages_stay c.args.geometry.now c.args.writes.now c.requ
 
 pub returns-clause-left : goal.returns-clause-left
 returns-clause-left c d is =
-    subst (λ (e : Change). pages_of (drop c.args.writes.now.next c.args.writes.now.merged.changes.items) ≡ page_of e ∷ pages_of (drop (c.args.writes.now.next + length c.first_page-changes.result.now) c.args.writes.now.merged.changes.items))
+    subst (λ (e : RedoRange). pages_of (drop c.args.writes.now.next c.args.writes.now.merged.changes.items) ≡ page_of e ∷ pages_of (drop (c.args.writes.now.next + length c.first_page-changes.result.now) c.args.writes.now.merged.changes.items))
     (one_item (settling c) d (sym (coming c).at ∙ is))
     (left_renewed c.args.geometry.now c.args.writes.now c.requires.drafted.0 (settling c) c.first_page-changes.result.now (coming c))

@@ -4,8 +4,8 @@ use Rattle.lc_recover.proofs.AreaLemmas.{not_ok}
 use Rattle.lc_recover.proofs.Writes.{next-of}
 use Rattle.lc_recover.specs.Reads.{AreHonest}
 use Rattle.lc_recover.specs.Shows.{ShowPages}
-use Rattle.lc_recover.specs.Stage.{Fits, IsWriting, OneCall}
-use Rattle.lc_recover.specs.declared.stage.Stage.TheVariants.{Writing as WritingPages}
+use Rattle.lc_recover.specs.RecoveryPhase.{Fits, IsWriting, OneCall}
+use Rattle.lc_recover.specs.declared.recovery_phase.RecoveryPhase.TheVariants.{Writing as WritingPages}
 use Rattle.lc_recover.proofs.page_steps.write_next.Goals as goal
 
 pub begin_next-requires-clause-within : goal.begin_next-requires-clause-within

@@ -2,7 +2,7 @@ use Rattle.std.proofs.Common.{is_ok, ◌≡◌, ◌∙◌, ◌*◌, ◌<◌, ℕ
 use Rattle.std.specs.Prelude.{slice_get, slice_set}
 use Rattle.std.proofs.lemmas.Option.{slice_get-get_or, same_Some as one_item}
 use Rattle.lc_recover.specs.KeptAreas.{read_count}
-use Rattle.lc_recover.specs.Stage.{OneCall}
+use Rattle.lc_recover.specs.RecoveryPhase.{OneCall}
 use Rattle.lc_recover.proofs.AreaLemmas.{on_ok, one-call, quiet-begins, quiet-merges, quiet-reads}
 use Rattle.lc_recover.proofs.Images.{len-segment}
 use Rattle.lc_recover.proofs.ReadSteps.{log-read, segment-read}

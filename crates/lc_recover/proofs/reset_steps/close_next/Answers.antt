@@ -3,13 +3,13 @@ use Rattle.std.specs.Prelude.{slice_get, slice_index_or}
 use Rattle.std.proofs.lemmas.Option.{slice_get-get_or, get_or_from_slice_get}
 use Rattle.lc_recover.proofs.AreaLemmas.{one-call}
 use Rattle.lc_recover.proofs.ResetSteps.{long_log, reset-begins, reset-fits, logs-show, words-show, at-rest, turned}
-use Rattle.lc_recover.specs.Stage.{AreaFits, ReadsWords}
+use Rattle.lc_recover.specs.RecoveryPhase.{AreaFits, ReadsWords}
 use Rattle.lc_record.specs.Words.{words_of}
 use Rattle.lc_record.specs.declared.record.Record.{Record}
 use Rattle.lc_record.proofs.ListLemmas.{OnOk_then as on_ok}
 use Rattle.lc_log.specs.LogText.{IsLogText}
 use Rattle.lc_log.specs.NodeLog.{GateReads, Holds}
-use Rattle.lc_recover.specs.declared.stage.Stage.TheVariants.{Resetting}
+use Rattle.lc_recover.specs.declared.recovery_phase.RecoveryPhase.TheVariants.{Resetting}
 use Rattle.lc_recover.proofs.reset_steps.close_next.Given.{Over}
 use Rattle.lc_recover.proofs.reset_steps.close_next.Goals as goal
 

@@ -4,9 +4,9 @@ use Rattle.std.proofs.lemmas.Option.{slice_get-get_or}
 use Rattle.lc_record.proofs.ListLemmas.{OnOk_then as on_ok}
 use Rattle.lc_recover.proofs.AreaLemmas.{one-call}
 use Rattle.lc_recover.proofs.ResetSteps.{long_log, reset-begins, reset-fits, logs-show, is-closing, passed}
-use Rattle.lc_recover.specs.Stage.{AreaFits, IsResetting}
+use Rattle.lc_recover.specs.RecoveryPhase.{AreaFits, IsResetting}
 use Rattle.lc_log.specs.NodeLog.{IsShut}
-use Rattle.lc_recover.specs.declared.stage.Stage.TheVariants.{Resetting}
+use Rattle.lc_recover.specs.declared.recovery_phase.RecoveryPhase.TheVariants.{Resetting}
 use Rattle.lc_recover.proofs.reset_steps.settle_next.Given.{Over}
 use Rattle.lc_recover.proofs.reset_steps.settle_next.Goals as goal
 

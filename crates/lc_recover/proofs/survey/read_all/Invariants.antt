@@ -1,8 +1,8 @@
 use Rattle.std.proofs.Common.{◌≡◌, map}
 use Rattle.lc_recover.specs.KeptAreas.{IsReadOf, read_count}
 use Rattle.lc_recover.specs.Reads.{AreHonest, AreLeftAs}
-use Rattle.lc_recover.specs.Stage.{AreasFit}
-use Rattle.lc_recover.specs.declared.stage.Stage.TheVariants.{Syncing}
+use Rattle.lc_recover.specs.RecoveryPhase.{AreasFit}
+use Rattle.lc_recover.specs.declared.recovery_phase.RecoveryPhase.TheVariants.{Syncing}
 use Rattle.lc_recover.proofs.survey.read_all.Given as goal
 
 abbrev pub invariant-loop : goal.invariant-loop

@@ -1,6 +1,6 @@
 use Rattle.std.proofs.Common.{◌≡◌, ◌⊎◌, Ok, Err, sym, subst, inl}
 use Rattle.std.specs.Prelude.{Result, IfErr}
-use Rattle.lc_model.specs.Merge.{Store, MergesTo}
+use Rattle.lc_model.specs.Merge.{StoreText, MergesTo}
 use Rattle.lc_recover.specs.Forecast.{Foretold}
 use Rattle.lc_recover.specs.declared.fault.RecoverFault.{RecoverFault}
 use Rattle.lc_recover.specs.declared.fault.RecoverFault.TheVariants.{DeviceFault, NoMemory}
@@ -12,4 +12,4 @@ only_memory (Err fault) wants = inl wants
 
 pub returns-clause-accepted : goal.returns-clause-accepted
 returns-clause-accepted g c content numbers lengths honest merges =
-    only_memory c.forecast.result (c.forecast.ensures.accepted content numbers (subst (λ (s : Store). MergesTo s content numbers) (sym (c.in_ok-read.ensures.read honest)) merges))
+    only_memory c.forecast.result (c.forecast.ensures.accepted content numbers (subst (λ (s : StoreText). MergesTo s content numbers) (sym (c.in_ok-read.ensures.read honest)) merges))

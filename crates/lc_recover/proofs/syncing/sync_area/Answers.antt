@@ -4,8 +4,8 @@ use Rattle.std.proofs.lemmas.Option.{slice_get-get_or}
 use Rattle.lc_log.proofs.OneCalls.{sync_call}
 use Rattle.lc_record.proofs.ListLemmas.{OnOk_then as on_ok}
 use Rattle.lc_recover.proofs.AreaLemmas.{quiet-begins, quiet-bytes, quiet-merges, quiet-reads, one-call, fits-set, cleaner}
-use Rattle.lc_recover.specs.Stage.{Quiet}
-use Rattle.lc_recover.specs.declared.stage.Stage.TheVariants.{Syncing}
+use Rattle.lc_recover.specs.RecoveryPhase.{Quiet}
+use Rattle.lc_recover.specs.declared.recovery_phase.RecoveryPhase.TheVariants.{Syncing}
 use Rattle.lc_recover.proofs.syncing.sync_area.Given.{Over}
 use Rattle.lc_recover.proofs.syncing.sync_area.Goals as goal
 

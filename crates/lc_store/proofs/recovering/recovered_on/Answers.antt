@@ -4,7 +4,7 @@ use Rattle.lc_recover.specs.Recovery.{Tells}
 use Rattle.lc_recover.specs.declared.progress.Progress.{Progress}
 use Rattle.lc_look.proofs.AreasRecovered.{done_of, explains_step, first_goes, next_goes, recovers}
 use Rattle.lc_store.specs.Opening.{RefusesAreas}
-use Rattle.lc_store.specs.declared.open_fault.OpenFault.{OpenFault}
+use Rattle.lc_store.specs.declared.store_open_fault.StoreOpenFault.{StoreOpenFault}
 use Rattle.lc_store.proofs.recovering.recovered_on.Goals as goal
 
 pub loop-recovery-init : goal.loop-recovery-init
@@ -16,7 +16,7 @@ returns-in_err-step-clause-refuses g c =
     let old = c.loop-recovery.recovery in
     let why = explains_step g.D.Area c.args.geometry c.args.areas.items old c.in_err-step.field-0.0 c.loop-recovery.invariant c.in-Ok.ensures.right
     c.in_err-step.ensures.accepted c.in_err-step.ensures.fault c.in_err-step.ensures.refused in
-    rw p.1 (subst (λ (fault : OpenFault). RefusesAreas g.D.Area c.args.geometry c.args.areas.items fault) (sym p.2) (c.in_err-step.field-0.0, refl, why))
+    rw p.1 (subst (λ (fault : StoreOpenFault). RefusesAreas g.D.Area c.args.geometry c.args.areas.items fault) (sym p.2) (c.in_err-step.field-0.0, refl, why))
 
 pub loop-recovery-preserved : goal.loop-recovery-preserved
 loop-recovery-preserved g c =

@@ -1,7 +1,7 @@
 use Rattle.std.proofs.Common.{◌++◌}
 use Rattle.std.proofs.KnownBytes.{Appends-trans}
 use Rattle.std.proofs.lemmas.Result.{IfOk-weaker}
-use Rattle.lc_tool.specs.View.{front_text}
+use Rattle.lc_tool.specs.StoreReport.{front_text}
 use Rattle.lc_tool.proofs.Views.{tells_none, tells_shown}
 use Rattle.lc_tool.proofs.looking.show_store.Goals as goal
 

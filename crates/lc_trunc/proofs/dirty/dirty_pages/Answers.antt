@@ -2,7 +2,7 @@ use Rattle.std.proofs.Common.{◌≡◌, ◌<◌, ◌+◌, ◌++◌, ◌∷◌, 
 use Rattle.std.proofs.lemmas.Bool.{both_ways}
 use Rattle.std.proofs.lemmas.Result.{err_from_is_err_and}
 use Rattle.lc_page.specs.PageVector.{entry_at, is_dirty}
-use Rattle.lc_page.specs.declared.entry.Entry.{Entry}
+use Rattle.lc_page.specs.declared.page_entry.PageEntry.{PageEntry}
 use Rattle.lc_token.specs.Token.{IsDirtyPage}
 use Rattle.lc_trunc.specs.Dirty.{AreDirtyPages}
 use Rattle.lc_trunc.proofs.DirtyLemmas.{DirtyBelow, dirty_more, clean_same, dirty_all}
@@ -17,7 +17,7 @@ returns-in_err-push-clause-memory c =
     let among : place < length pages = omega (arith, c.loop-place-test.true, c.len-place-end.ensures) in
     let dirty : is_dirty (entry_at pages place) ≡ true = ap (λ (n : ℕ). is_dirty (entry_at pages n)) (sym c.in-Ok.ensures.1) ∙ (sym c.dirty.ensures ∙ c.if-dirty.true) in
     let p = err_from_is_err_and c.from_residual.result c.from_residual.ensures.1 in
-    rw p.1 (place, subst (λ (ps : List Entry). IsDirtyPage ps place) c.pages-pages.ensures (among, small, dirty))
+    rw p.1 (place, subst (λ (ps : List PageEntry). IsDirtyPage ps place) c.pages-pages.ensures (among, small, dirty))
 
 pub loop-place-preserved : goal.loop-place-preserved
 loop-place-preserved c =
@@ -41,7 +41,7 @@ pub returns-clause-pages : goal.returns-clause-pages
 returns-clause-pages c =
     let pages = c.pages-pages.result.now in
     let place = c.loop-place.place in
-    subst (λ (ps : List Entry). AreDirtyPages ps c.loop-place.numbers.items) c.pages-pages.ensures (dirty_all pages place c.loop-place.numbers.items
+    subst (λ (ps : List PageEntry). AreDirtyPages ps c.loop-place.numbers.items) c.pages-pages.ensures (dirty_all pages place c.loop-place.numbers.items
     (λ page dirty. elim c.loop-place-test.branch [
       | else-loop-place-test w ↦ omega (arith, dirty.0, w.loop-place-test.false, c.len-place-end.ensures)
       | then-loop-place-test+in_default w ↦ omega (arith, dirty.1, w.in_default.ensures)

@@ -1,6 +1,6 @@
 use Rattle.std.proofs.Common.{◌≡◌, drop}
 use Rattle.lc_applied.specs.AppliedParts.{laid_parts}
-use Rattle.lc_applied.specs.Entry.{parts_of, AreUsedUp}
+use Rattle.lc_applied.specs.AppliedPart.{parts_of, AreUsedUp}
 use Rattle.lc_applied.proofs.applied_parts.AppliedParts.lay_on.Given as goal
 
 abbrev pub invariant-loop-entry : goal.invariant-loop-entry

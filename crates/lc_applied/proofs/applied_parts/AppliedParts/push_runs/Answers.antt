@@ -4,9 +4,9 @@ use Rattle.lc_range.specs.RangeSet.{total_len}
 use Rattle.lc_range.specs.declared.range.Range.{Range}
 use Rattle.lc_record.specs.declared.record.RangeData.{RangeData}
 use Rattle.lc_applied.specs.AppliedParts.{Applied, range_of_run, runs_of}
-use Rattle.lc_applied.specs.Entry.{bytes_of, parts_of, ranges_of, runs_in}
-use Rattle.lc_applied.specs.declared.entry.Entry.{Entry}
-use Rattle.lc_applied.specs.declared.entry.Entry.TheVariants.{Own}
+use Rattle.lc_applied.specs.AppliedPart.{bytes_of, parts_of, ranges_of, runs_in}
+use Rattle.lc_applied.specs.declared.applied_part.AppliedPart.{AppliedPart}
+use Rattle.lc_applied.specs.declared.applied_part.AppliedPart.TheVariants.{Own}
 use Rattle.lc_applied.proofs.PartsLemmas.{parts-push, runs_in-push, seen-of}
 use Rattle.lc_applied.proofs.RunsLemmas.{length-bytes_of, ranges-of_image, total-append}
 use Rattle.lc_applied.proofs.applied_parts.AppliedParts.push_runs.Goals as goal
@@ -40,10 +40,10 @@ returns-clause-parts c =
     let bytes : List ℕ = bytes_of own c.args.image.now in
     let fields = c.self.inside in
     let count = c.add_runs-count.result in
-    let entry : Entry = Own c.args.segment c.args.seq count in
+    let entry : AppliedPart = Own c.args.segment c.args.seq count in
     let pushed = parts-push fields.entries.items entry fields.runs.items own fields.bytes.items bytes c.self.invariant (omega (arith, c.add_runs-count.ensures.count)) in
     let all = ap (λ (l : List Range). ranges_of l bytes) (take_all count own (omega (arith, c.add_runs-count.ensures.count))) ∙ ranges-of_image own c.args.image.now c.requires.within in
-    ap (λ (l : List Entry). parts_of l c.add_runs-count.new.kept.items c.add_runs-count.new.bytes.items) c.push_reserved.ensures.items
+    ap (λ (l : List AppliedPart). parts_of l c.add_runs-count.new.kept.items c.add_runs-count.new.bytes.items) c.push_reserved.ensures.items
     ∙ ap (λ (l : List Range). parts_of (fields.entries.items ++ entry ∷ []) l c.add_runs-count.new.bytes.items) c.add_runs-count.ensures.runs
     ∙ ap (λ (l : List ℕ). parts_of (fields.entries.items ++ entry ∷ []) (fields.runs.items ++ own) l) c.add_runs-count.ensures.bytes
     ∙ pushed

@@ -2,8 +2,8 @@ use Rattle.std.proofs.Common.{List, ap, sym, ◌∙◌, arith}
 use Rattle.std.proofs.lemmas.Result.{on_err_weaker}
 use Rattle.lc_record.proofs.ListLemmas.{OnOk_then}
 use Rattle.lc_applied.specs.AppliedParts.{Applied}
-use Rattle.lc_applied.specs.Entry.{parts_of}
-use Rattle.lc_applied.specs.declared.entry.Entry.{Entry}
+use Rattle.lc_applied.specs.AppliedPart.{parts_of}
+use Rattle.lc_applied.specs.declared.applied_part.AppliedPart.{AppliedPart}
 use Rattle.lc_applied.proofs.PartsLemmas.{length-parts, same-applied, seen-of}
 use Rattle.lc_applied.proofs.applied_parts.AppliedParts.reserve.Goals as goal
 
@@ -23,7 +23,7 @@ pub returns-clause-refused : goal.returns-clause-refused
 returns-clause-refused c =
     let seen = seen-of _ _ _ _ _ _ _ c.self.view_is in
     let len = c.self.inside.entries.ok in
-    let items = ap (λ (l : List Entry). parts_of l c.self.inside.runs.items c.self.inside.bytes.items) c.reserve.ensures.items in
+    let items = ap (λ (l : List AppliedPart). parts_of l c.self.inside.runs.items c.self.inside.bytes.items) c.reserve.ensures.items in
     let parts = items ∙ ap (λ (a : Applied). a.parts) c.self.view_is in
     on_err_weaker c.reserve.result
     (λ same. let less = c.if-more-capacity.false in (omega (arith, seen, len, less), same-applied _ _ parts (same ∙ sym seen.room_is) (sym seen.runs_left_is) (sym seen.bytes_left_is)))

@@ -1,5 +1,5 @@
 use Rattle.std.proofs.Common.{◌≡◌, ◌++◌, [], ◌∷◌, ◌∙◌, ap, sym, subst}
-use Rattle.lc_c.specs.Stage.{gathered}
+use Rattle.lc_c.specs.SessionState.{gathered}
 use Rattle.lc_c.proofs.session.Session.add_area.Goals as goal
 
 pub returns-clause-added : goal.returns-clause-added

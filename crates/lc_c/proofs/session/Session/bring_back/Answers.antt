@@ -2,7 +2,7 @@ use Rattle.std.proofs.Common.{List, refl, sym, subst}
 use Rattle.std.specs.Prelude.{Ok}
 use Rattle.lc_c.specs.SetsAside.{BackStage, BeginsEach}
 use Rattle.lc_c.specs.declared.aside.Aside.{Aside}
-use Rattle.lc_c.specs.declared.stage.Stage.TheVariants.{Open}
+use Rattle.lc_c.specs.declared.session_state.SessionState.TheVariants.{Open}
 use Rattle.lc_c.proofs.session.Session.bring_back.Goals as goal
 
 pub returns-in-Open : goal.returns-in-Open

@@ -1,6 +1,6 @@
 use Rattle.std.proofs.Common.{refl, sym, subst}
 use Rattle.lc_c.specs.Restores.{RestoresOf}
-use Rattle.lc_c.specs.declared.stage.Stage.TheVariants.{Open}
+use Rattle.lc_c.specs.declared.session_state.SessionState.TheVariants.{Open}
 use Rattle.lc_c.proofs.session.Session.restore.Goals as goal
 
 pub returns-in-Open : goal.returns-in-Open

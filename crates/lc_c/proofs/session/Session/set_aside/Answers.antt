@@ -1,7 +1,7 @@
 use Rattle.std.proofs.Common.{List, ◌∙◌, ◌++◌, ap, refl, sym, subst}
 use Rattle.lc_c.specs.SetsAside.{AbortsEach, AsideStage}
 use Rattle.lc_c.specs.declared.aside.Aside.{Aside}
-use Rattle.lc_c.specs.declared.stage.Stage.TheVariants.{Open}
+use Rattle.lc_c.specs.declared.session_state.SessionState.TheVariants.{Open}
 use Rattle.lc_c.proofs.session.Session.set_aside.Goals as goal
 
 pub returns-in_ok-make_room-in-Open : goal.returns-in_ok-make_room-in-Open

@@ -1,7 +1,7 @@
 use Rattle.std.proofs.Common.{◌∙◌, refl, sym, subst}
 use Rattle.std.specs.Prelude.{Ok}
-use Rattle.lc_c.specs.Stage.{StartsStage}
-use Rattle.lc_c.specs.declared.stage.Stage.TheVariants.{Open}
+use Rattle.lc_c.specs.SessionState.{StartsStage}
+use Rattle.lc_c.specs.declared.session_state.SessionState.TheVariants.{Open}
 use Rattle.lc_c.proofs.session.Session.start.Goals as goal
 
 pub returns-in-Ok-clause-starts : goal.returns-in-Ok-clause-starts

@@ -1,7 +1,7 @@
 use Rattle.std.proofs.Common.{rules, ◌≡◌, ℕ, List, length, sym, ap, subst, ◌∙◌}
 use Rattle.std.specs.Global.{Vec}
 use Rattle.lc_stage.specs.Seats.{commit_view}
-use Rattle.lc_stage.specs.declared.view.View.{View}
+use Rattle.lc_stage.specs.declared.stage_view.StageView.{StageView}
 use Rattle.lc_node.specs.Among.{IsAmong}
 use Rattle.lc_node.specs.LogView.{LogView}
 use Rattle.lc_node.specs.declared.node.Node.{Node}
@@ -15,7 +15,7 @@ returns-clause-reads g c =
     let at : c.self.inside.node.now ≡ c.args.self.now.node = search rules in
     let seen : commit_view c.take_out-seat.result ≡ c.args.self.now.view = search rules in
     let e = c.confirm-seat.ensures in
-    subst (λ (p : Node g.row.D.Denot × View). ReadsIn p.0 p.1 c.args.receipt c.args.words.now.items c.confirm-seat.result.1 c.match-confirmed.words.items) (λ k. (at k, seen k)) (record {
+    subst (λ (p : Node g.row.D.Denot × StageView). ReadsIn p.0 p.1 c.args.receipt c.args.words.now.items c.confirm-seat.result.1 c.match-confirmed.words.items) (λ k. (at k, seen k)) (record {
       confirms = record {
         log = c.lock-log.result.0;
         own = (c.lock-log.ensures.fits.0 ∙ c.log_lock-lock.ensures, c.lock-log.ensures.fits.1 ∙ c.log_lock-lock.ensures);

@@ -7,7 +7,7 @@ use Rattle.lc_record.proofs.ListLemmas.{slice_get-map_some as get-map}
 use Rattle.lc_core.specs.Here.{beside}
 use Rattle.lc_core.specs.Leaves.{MayLeave}
 use Rattle.lc_core.specs.Places.{same_some}
-use Rattle.lc_core.specs.declared.slot.Slot.{Slot}
+use Rattle.lc_core.specs.declared.segment_copy.SegmentCopy.{SegmentCopy}
 use Rattle.lc_core.proofs.Names.{err_at, of_leave}
 use Rattle.lc_core.proofs.Left.{LeaveAnswers, leaves, may_leave, runs_left, same_left}
 use Rattle.lc_core.proofs.Shortness.{in_place_moved, short_moved}
@@ -53,7 +53,7 @@ returns c =
       err = c.leave.ensures.err;
     } in
     record {
-      done = λ other got. subst (λ (x : Slot). IsOk c.leave.result ↔ MayLeave c.args.writing c.args.reserved c.args.stable x) (same_some slot other (sym at ∙ got))
+      done = λ other got. subst (λ (x : SegmentCopy). IsOk c.leave.result ↔ MayLeave c.args.writing c.args.reserved c.args.stable x) (same_some slot other (sym at ∙ got))
           (may_leave slot c.leave.new.self (not c.is_free-held.result) c.args.writing c.args.reserved c.args.stable c.leave.result (ap not holds_is) answers);
       writing = λ same. (c.leave.ensures.writing.0 same).2;
       unflushed = λ same. (c.leave.ensures.unflushed.0 same).2;

@@ -5,7 +5,7 @@ use Rattle.std.proofs.lemmas.List.{take_all}
 use Rattle.std.proofs.lemmas.Option.{slice_get-get_or as got}
 use Rattle.lc_range.specs.declared.range.Range.{Range}
 use Rattle.lc_core.specs.Counts.{CountsAll, names}
-use Rattle.lc_core.specs.declared.slot.Slot.{Slot}
+use Rattle.lc_core.specs.declared.segment_copy.SegmentCopy.{SegmentCopy}
 use Rattle.lc_core.specs.declared.here.Here.{Here}
 use Rattle.lc_core.proofs.Counting.{CountsSome, Outcome, range_skipped, range_done, first_range, next_range, the_slot, outcome_touched, outcome_left, names_before, none_done, take_next}
 use Rattle.lc_core.proofs.here.Here.count.Goals.{then-range-segment, else-range-segment, then-counted, else-counted}
@@ -14,7 +14,7 @@ use Rattle.lc_core.proofs.here.Here.count.Goals as goal
 abbrev range_at : List Range → ℕ → Range
 range_at ranges k = slice_index_or ranges k (record { segment = 0; offset = 0; len = 0 })
 
-next_done : (ranges : List Range) (k segment : ℕ) (counted : Bool) (old now : List Slot) → k < length ranges
+next_done : (ranges : List Range) (k segment : ℕ) (counted : Bool) (old now : List SegmentCopy) → k < length ranges
     → CountsSome (take k ranges ++ range_at ranges k ∷ []) segment counted old now → CountsSome (take (k + 1) ranges) segment counted old now
 next_done ranges k segment counted old now lt h =
     subst (λ (done : List Range). CountsSome done segment counted old now) (sym (take_next ranges k (range_at ranges k) (got ranges k _ lt))) h
@@ -50,24 +50,24 @@ module _ (c : goal.Joined-counted) where
   before : (s : ℕ) → names s done ≡ true → s ≤ r.segment
   before = names_before c.args.ranges.now c.loop-range.range-index r c.requires.canonical (got c.args.ranges.now c.loop-range.range-index _ c.loop-range-test.true)
 
-  abbrev mid : Slot
+  abbrev mid : SegmentCopy
   mid = c.index_mut-slot.result.now
 
   mid_is : slice_get c.loop-range.self.slots.items k ≡ Some mid
-  mid_is = got c.loop-range.self.slots.items k mid (omega (arith, here)) ∙ ap (λ (s : Slot). Some s) (sym c.index_mut-slot.ensures.value)
+  mid_is = got c.loop-range.self.slots.items k mid (omega (arith, here)) ∙ ap (λ (s : SegmentCopy). Some s) (sym c.index_mut-slot.ensures.value)
 
-  abbrev old : Slot
+  abbrev old : SegmentCopy
   old = (the_slot done r c.loop-range.segment c.loop-range.counted c.args.self.now.slots.items c.loop-range.self.slots.items h before k is mid mid_is).0
 
   outcome : Outcome (k + 1) done c.if-range-segment.counted old c.if-range-segment.slot
   outcome = elim c.if-range-segment.branch [
     | then-range-segment w ↦
-        subst (λ (s : Slot). Outcome (k + 1) done c.if-range-segment.counted old s) (sym w.slot-is)
+        subst (λ (s : SegmentCopy). Outcome (k + 1) done c.if-range-segment.counted old s) (sym w.slot-is)
         (subst (λ (b : Bool). Outcome (k + 1) done b old w.count-counted.new.self) (sym w.counted-is)
         (first_range done r c.loop-range.segment c.loop-range.counted c.args.self.now.slots.items c.loop-range.self.slots.items h before k is mid mid_is
         w.count-counted.new.self w.count-counted.result w.if-range-segment.true w.count-counted.ensures))
     | else-range-segment w ↦
-        subst (λ (s : Slot). Outcome (k + 1) done c.if-range-segment.counted old s) (sym w.slot-is)
+        subst (λ (s : SegmentCopy). Outcome (k + 1) done c.if-range-segment.counted old s) (sym w.slot-is)
         (subst (λ (b : Bool). Outcome (k + 1) done b old mid) (sym w.counted-is)
         (next_range done r c.loop-range.segment c.loop-range.counted c.args.self.now.slots.items c.loop-range.self.slots.items h before k is mid mid_is w.if-range-segment.false))
   ]
@@ -83,7 +83,7 @@ module _ (c : goal.Joined-counted) where
       CountsSome (take (c.loop-range.range-index + 1) c.args.ranges.now) c.if-range-segment.segment c.if-range-segment.counted c.args.self.now.slots.items self.slots.items
       × (self.spare ≡ c.args.self.now.spare)
 
-  whole : (new : Slot) → Outcome (k + 1) (done ++ r ∷ []) c.if-range-segment.counted old new
+  whole : (new : SegmentCopy) → Outcome (k + 1) (done ++ r ∷ []) c.if-range-segment.counted old new
       → CountsSome (take (c.loop-range.range-index + 1) c.args.ranges.now) c.if-range-segment.segment c.if-range-segment.counted c.args.self.now.slots.items (slice_set c.loop-range.self.slots.items k new)
   whole new result =
       subst (λ (s : ℕ). CountsSome (take (c.loop-range.range-index + 1) c.args.ranges.now) s c.if-range-segment.counted c.args.self.now.slots.items (slice_set c.loop-range.self.slots.items k new)) (sym number)

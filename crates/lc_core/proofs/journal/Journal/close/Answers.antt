@@ -1,6 +1,6 @@
 use Rattle.std.proofs.Common.{arith, length, ap, sym, subst, ◌∙◌}
 use Rattle.lc_model.specs.Machine.{closed_by}
-use Rattle.lc_core.specs.Records.{Kept, count_of, span_of}
+use Rattle.lc_core.specs.Records.{KeptRecords, count_of, span_of}
 use Rattle.lc_core.specs.Journal.{FitsLog}
 use Rattle.lc_core.proofs.Logged.{Extends, closed_count, closed_extends, fits_closed}
 use Rattle.lc_core.proofs.journal.Journal.close.Given.{Over}
@@ -10,7 +10,7 @@ module _ (g : Over) (c : goal.After-close g) where
   extends : Extends c.args.self.now.records c.close.new.self c.args.self.now.dropped c.args.self.now.acked c.args.self.now.taken 0
   extends =
       let w = c.args.self.now in
-      subst (λ (k : Kept). Extends w.records k w.dropped w.acked w.taken 0) (sym c.close.ensures)
+      subst (λ (k : KeptRecords). Extends w.records k w.dropped w.acked w.taken 0) (sym c.close.ensures)
       (closed_extends w.records w.dropped w.acked w.taken w.kept w.dropped_acked w.acked_taken w.taken_closed c.args.number)
 
 pub invariant_of-self : goal.invariant_of-self
@@ -40,7 +40,7 @@ invariant_of-self g c =
 pub returns-clause-shuts : goal.returns-clause-shuts
 returns-clause-shuts g c m node thread s x t sound h found there =
     let w = c.args.self.now in
-    subst (λ (k : Kept). FitsLog g.D.Area m node w.log k w.dropped w.trimmed w.taken w.acked (record s { history = closed_by node thread s.history }) x) (sym c.close.ensures)
+    subst (λ (k : KeptRecords). FitsLog g.D.Area m node w.log k w.dropped w.trimmed w.taken w.acked (record s { history = closed_by node thread s.history }) x) (sym c.close.ensures)
     (fits_closed g.D.Area m node s x w.log w.records w.dropped w.trimmed w.taken w.acked h thread c.args.number t sound found there)
 
 pub returns-clause-end : goal.returns-clause-end
@@ -48,6 +48,6 @@ returns-clause-end g c =
     let w = c.args.self.now in
     omega (
       arith,
-      ap (λ (k : Kept). length (span_of k w.dropped (count_of k))) c.close.ensures,
+      ap (λ (k : KeptRecords). length (span_of k w.dropped (count_of k))) c.close.ensures,
       (closed_extends w.records w.dropped w.acked w.taken w.kept w.dropped_acked w.acked_taken w.taken_closed c.args.number).end,
     )

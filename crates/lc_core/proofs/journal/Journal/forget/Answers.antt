@@ -1,6 +1,6 @@
 use Rattle.std.proofs.Common.{◌≤◌, ℕ, length, refl, sym, ap, subst, ◌∙◌, arith}
 use Rattle.lc_core.specs.Journal.{FitsLog}
-use Rattle.lc_core.specs.Records.{Kept, count_of, front_of, span_of}
+use Rattle.lc_core.specs.Records.{KeptRecords, count_of, front_of, span_of}
 use Rattle.lc_core.proofs.Forgetting.{IsForgotten, is_forgotten, log_forgotten}
 use Rattle.lc_core.proofs.journal.Journal.forget.Given.{Over}
 use Rattle.lc_core.proofs.journal.Journal.forget.Goals as goal
@@ -24,14 +24,14 @@ module _ (g : Over) (c : goal.After-forget g) where
   is : IsForgotten c.args.self.now.records c.forget.new.self c.args.self.now.dropped c.args.self.now.acked c.args.self.now.taken
   is =
       let w = c.args.self.now in
-      subst (λ (k : Kept). IsForgotten w.records k w.dropped w.acked w.taken) (sym c.forget.ensures)
+      subst (λ (k : KeptRecords). IsForgotten w.records k w.dropped w.acked w.taken) (sym c.forget.ensures)
       (is_forgotten w.records c.min.result may.kept may.closed w.dropped w.acked w.taken (omega (arith, c.min.ensures)) w.dropped_acked w.acked_taken)
 
 pub invariant_of-self : goal.invariant_of-self
 invariant_of-self g c =
     let w = c.args.self.now in
     let e = is g c in
-    let before = ap (λ (k : Kept). k.before) c.forget.ensures in
+    let before = ap (λ (k : KeptRecords). k.before) c.forget.ensures in
     record {
       kept = omega (arith, before, c.min.ensures);
       kept_for_peers = omega (arith, before, c.min.ensures);
@@ -59,10 +59,10 @@ returns g c =
     let closed : c.min.result ≤ front_of w.records = omega (arith, w.dropped_acked, w.acked_taken, w.taken_closed, c.min.ensures) in
     record {
       still = λ m node s x h.
-          subst (λ (k : Kept). FitsLog g.D.Area m node w.log k w.dropped w.trimmed w.taken w.acked s x) (sym c.forget.ensures)
+          subst (λ (k : KeptRecords). FitsLog g.D.Area m node w.log k w.dropped w.trimmed w.taken w.acked s x) (sym c.forget.ensures)
           (log_forgotten w.records c.min.result kept closed g.D.Area m node w.log w.dropped w.trimmed w.taken w.acked s x h);
-      kept = ap (λ (k : Kept). k.before) c.forget.ensures ∙ c.min.ensures;
-      end = ap (λ (k : Kept). length (span_of k w.dropped (count_of k))) c.forget.ensures
+      kept = ap (λ (k : KeptRecords). k.before) c.forget.ensures ∙ c.min.ensures;
+      end = ap (λ (k : KeptRecords). length (span_of k w.dropped (count_of k))) c.forget.ensures
           ∙ (is_forgotten w.records c.min.result kept closed w.dropped w.acked w.taken (omega (arith, c.min.ensures)) w.dropped_acked w.acked_taken).end;
       log = refl;
       group = refl;

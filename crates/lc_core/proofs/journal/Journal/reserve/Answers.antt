@@ -1,7 +1,7 @@
 use Rattle.std.proofs.Common.{refl, ◌≤◌, ◌+◌, ℕ, arith, length, ap, sym, subst, ◌∙◌, inl, inr, true≢false}
 use Rattle.lc_model.specs.Machine.{appended}
 use Rattle.lc_record.proofs.ListLemmas.{IfOk_both as ok_both}
-use Rattle.lc_core.specs.Records.{Kept, count_of, span_of}
+use Rattle.lc_core.specs.Records.{KeptRecords, count_of, span_of}
 use Rattle.lc_core.specs.Journal.{FitsLog}
 use Rattle.lc_core.proofs.Logged.{Extends, err_then, ok_or, same_extends, more_extends, count_same, fits_more}
 use Rattle.lc_core.proofs.JournalParts.{same_journal}
@@ -18,13 +18,13 @@ module _ (g : Over) (c : goal.After-reserve g) where
         | inl added ↦ (
           length c.args.words.now,
           c.requires.room,
-          subst (λ (k : Kept). Extends w.records k w.dropped w.acked w.taken (length c.args.words.now)) (sym added)
+          subst (λ (k : KeptRecords). Extends w.records k w.dropped w.acked w.taken (length c.args.words.now)) (sym added)
               (more_extends w.records w.dropped w.acked w.taken w.kept w.dropped_acked w.acked_taken w.taken_closed c.args.words.now),
         )
         | inr same ↦ (
           0,
           omega (arith, w.room),
-          subst (λ (k : Kept). Extends w.records k w.dropped w.acked w.taken 0) (sym same)
+          subst (λ (k : KeptRecords). Extends w.records k w.dropped w.acked w.taken 0) (sym same)
               (same_extends w.records w.dropped w.acked w.taken w.kept w.dropped_acked w.acked_taken w.taken_closed),
         )
       ]
@@ -59,7 +59,7 @@ returns-clause-logs g c =
     let w = c.args.self.now in
     ok_both c.reserve.result c.reserve.ensures.number c.reserve.ensures.added (λ number counts added m node s x t r h own last spelled whole. (
       counts ∙ count_same g.D.Area m node s x w.log w.records w.dropped w.trimmed w.taken w.acked h,
-      subst (λ (k : Kept). FitsLog g.D.Area m node w.log k w.dropped w.trimmed w.taken w.acked (appended s t) x) (sym added)
+      subst (λ (k : KeptRecords). FitsLog g.D.Area m node w.log k w.dropped w.trimmed w.taken w.acked (appended s t) x) (sym added)
           (fits_more g.D.Area m node s x w.log w.records w.dropped w.trimmed w.taken w.acked h t r c.args.words.now w.acked_taken w.taken_closed own last spelled whole),
     ))
 
@@ -67,7 +67,7 @@ pub returns-clause-end : goal.returns-clause-end
 returns-clause-end g c =
     let w = c.args.self.now in
     ok_both c.reserve.result c.reserve.ensures.number c.reserve.ensures.added (λ number counts added.
-    ap (λ (k : Kept). length (span_of k w.dropped (count_of k))) added
+    ap (λ (k : KeptRecords). length (span_of k w.dropped (count_of k))) added
     ∙ (more_extends w.records w.dropped w.acked w.taken w.kept w.dropped_acked w.acked_taken w.taken_closed c.args.words.now).end)
 
 pub returns-clause-err : goal.returns-clause-err

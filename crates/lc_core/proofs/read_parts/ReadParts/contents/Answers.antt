@@ -2,7 +2,7 @@ use Rattle.std.proofs.Common.{ℕ, [], List, map, inr, sym, subst}
 use Rattle.lc_rest.specs.AtRest.{AllKeepTokens, AreMerged}
 use Rattle.lc_core.specs.Readings.{AllKeepAt, FailsIn, tests_of}
 use Rattle.lc_core.specs.declared.node_piece.NodePiece.{NodePiece}
-use Rattle.lc_rest.specs.declared.part.Part.TheVariants.{Log, Image}
+use Rattle.lc_rest.specs.declared.cluster_part.ClusterPart.TheVariants.{Log, Image}
 use Rattle.lc_core.proofs.SameFaults.{same_part}
 use Rattle.lc_core.proofs.read_parts.ReadParts.contents.Goals as goal
 

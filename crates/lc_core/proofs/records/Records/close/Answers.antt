@@ -1,8 +1,8 @@
 use Rattle.std.proofs.Common.{◌≡◌, ◌-◌, ◌+◌, ℕ, List, arith, length, map, ap, sym, ◌∙◌, slice_set, slice_index_or, true}
 use Rattle.std.proofs.lemmas.List.{length-set}
 use Rattle.lc_model.specs.History.{leading}
-use Rattle.lc_core.specs.declared.place.Place.{Place}
-use Rattle.lc_core.specs.Records.{Kept, closing}
+use Rattle.lc_core.specs.declared.record_end.RecordEnd.{RecordEnd}
+use Rattle.lc_core.specs.Records.{KeptRecords, closing}
 use Rattle.lc_core.proofs.Spans.{Holds, held, kept_so, seen_so, closed_so, closed_below, closed_beyond, closed_in, known_so, few_so, count_so, length-places_of, leading_le}
 use Rattle.lc_core.proofs.records.Records.close.Goals.{then-number-self-via-then-number-self, then-number-self-via-else-number-self+then-number-count}
 use Rattle.lc_core.proofs.records.Records.close.Goals as goal
@@ -37,7 +37,7 @@ leading_from-self-inside-requires-clause-known c =
     rw c.as_slice.ensures.value (known_so _ _ _ _ _ _ h (c.args.number - c.self.inside.first) c.index_mut.result.now.end)
 
 module _ (c : goal.After-self-2-1) where
-  abbrev new : Kept
+  abbrev new : KeptRecords
   new = record c.args.self.now { records = closing (c.args.number - c.args.self.now.before) c.args.self.now.records }
 
   closed : Holds c.self.inside.first c.self.inside.words.items
@@ -46,11 +46,11 @@ module _ (c : goal.After-self-2-1) where
   closed =
       let h = held _ _ _ _ _ _ c.self.invariant c.self.view_is in
       let place : ℕ = c.args.number - c.self.inside.first in
-      let x : Place = c.index_mut.result.now in
+      let x : RecordEnd = c.index_mut.result.now in
       let at : place ≡ c.self.inside.gone + (c.args.number - c.args.self.now.before) = omega (arith, h.before_is, c.if-number-self.false) in
-      let end : x.end ≡ (slice_index_or c.self.inside.places.items place x).end = ap (λ (p : Place). p.end) c.index_mut.ensures.value in
-      let count : c.leading_from-self-inside.result ≡ leading (map (λ (p : Place). p.closed) (slice_set c.self.inside.places.items place (record { end = x.end; closed = true }))) =
-      c.leading_from-self-inside.ensures ∙ ap (λ (ps : List Place). leading (map (λ (p : Place). p.closed) ps)) c.as_slice.ensures.value in
+      let end : x.end ≡ (slice_index_or c.self.inside.places.items place x).end = ap (λ (p : RecordEnd). p.end) c.index_mut.ensures.value in
+      let count : c.leading_from-self-inside.result ≡ leading (map (λ (p : RecordEnd). p.closed) (slice_set c.self.inside.places.items place (record { end = x.end; closed = true }))) =
+      c.leading_from-self-inside.ensures ∙ ap (λ (ps : List RecordEnd). leading (map (λ (p : RecordEnd). p.closed) ps)) c.as_slice.ensures.value in
       closed_so _ _ _ _ _ _ h place (c.args.number - c.args.self.now.before) x.end c.leading_from-self-inside.result x at end count
 
 pub invariant_of-self : goal.invariant_of-self

@@ -1,7 +1,7 @@
 use Rattle.std.proofs.Common.{◌≡◌, ◌-◌, ◌+◌, ℕ, List, arith, drop, ap, ◌∙◌}
 use Rattle.std.specs.List.{count_by}
 use Rattle.lc_core.specs.Records.{Spelled}
-use Rattle.lc_core.specs.declared.place.Place.{Place}
+use Rattle.lc_core.specs.declared.record_end.RecordEnd.{RecordEnd}
 use Rattle.lc_core.proofs.Spans.{held, behind_so, closed_places}
 use Rattle.lc_core.proofs.records.Records.closed_from.Goals as goal
 
@@ -16,6 +16,6 @@ returns c =
     let kept : ℕ = c.args.number - c.args.self.now.before in
     let place : ℕ = c.args.number - c.self.inside.first in
     let there : place ≡ c.self.inside.gone + kept = omega (arith, h.before_is, c.requires) in
-    c.closed_among.ensures ∙ ap (λ (ps : List Place). count_by (λ (p : Place). p.closed) (drop place ps)) (c.as_slice.ensures.value ∙ h.places_are)
+    c.closed_among.ensures ∙ ap (λ (ps : List RecordEnd). count_by (λ (p : RecordEnd). p.closed) (drop place ps)) (c.as_slice.ensures.value ∙ h.places_are)
     ∙ closed_places 0 h.whole place
     ∙ ap (λ (rs : List Spelled). count_by (λ (r : Spelled). r.closed) rs) (behind_so _ _ _ _ _ _ h place kept there)

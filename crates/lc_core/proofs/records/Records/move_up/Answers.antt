@@ -1,6 +1,6 @@
 use Rattle.std.proofs.Common.{◌≡◌, ◌≤◌, ◌<◌, ◌-◌, ◌+◌, ◌++◌, ℕ, List, arith, length, map, take, drop, ap, ◌∙◌, slice_index_or}
 use Rattle.std.proofs.lemmas.List.{length-map, take_at}
-use Rattle.lc_core.specs.declared.place.Place.{Place}
+use Rattle.lc_core.specs.declared.record_end.RecordEnd.{RecordEnd}
 use Rattle.lc_core.specs.Records.{all_words, places_of, shifted}
 use Rattle.lc_core.proofs.Spans.{Holds, held, kept_so, seen_so, moved_so, count_so, holds_as, start_within, places_from, ends_beyond}
 use Rattle.lc_core.proofs.records.Records.move_up.Goals as goal
@@ -32,7 +32,7 @@ shift-requires c k d within =
     let cut = c.start_of-cut.ensures rs (c.as_slice.ensures.value ∙ h.places_are) in
     let beyond : c.start_of-cut.result ≤ end = omega (arith, cut) in
     let few : k < length (places_of end (drop gone rs)) = omega (arith, within, ap length left) in
-    omega (arith, ends_beyond c.start_of-cut.result end (drop gone rs) beyond k d few, ap (λ (ps : List Place). (slice_index_or ps k d).end) left)
+    omega (arith, ends_beyond c.start_of-cut.result end (drop gone rs) beyond k d few, ap (λ (ps : List RecordEnd). (slice_index_or ps k d).end) left)
 
 module _ (c : goal.After-self-4-1) where
   moved : Holds (c.self.inside.first + c.self.inside.gone) c.drop-drain.new.self.0.items

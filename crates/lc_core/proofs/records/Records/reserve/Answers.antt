@@ -1,11 +1,11 @@
 use Rattle.std.proofs.Common.{◌≡◌, ◌++◌, [], ◌∷◌, arith, length, ap, true, false}
 use Rattle.std.specs.Result.{is_ok}
-use Rattle.lc_core.specs.Records.{Kept}
+use Rattle.lc_core.specs.Records.{KeptRecords}
 use Rattle.lc_core.proofs.Spans.{Holds, held, kept_so, seen_so, grown_so}
 use Rattle.lc_core.proofs.records.Records.reserve.Goals as goal
 
 module _ (c : goal.After-unwrap) where
-  abbrev new : Kept
+  abbrev new : KeptRecords
   new = record c.args.self.now { records = c.args.self.now.records ++ record { words = c.args.words.now; closed = false } ∷ [] }
 
   grown : Holds c.self.inside.first c.extend_from_slice.new.self.items c.push.new.self.items c.self.inside.gone c.self.inside.leading new

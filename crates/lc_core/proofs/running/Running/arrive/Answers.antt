@@ -4,7 +4,7 @@ use Rattle.lc_token.specs.declared.token.Token.{Token}
 use Rattle.lc_model.specs.State.{Travelling, At}
 use Rattle.lc_model.specs.declared.event.Event.TheVariants.{Arrive}
 use Rattle.lc_model.specs.declared.reply.Reply.TheVariants.{Ok as Accepted, Refused}
-use Rattle.lc_core.specs.Node.{GoesOn}
+use Rattle.lc_core.specs.NodeState.{GoesOn}
 use Rattle.lc_core.specs.Nodes.{AreNamed}
 use Rattle.lc_core.specs.Running.{Onward}
 use Rattle.lc_model.specs.Refusals.{common_refusal}

@@ -2,7 +2,7 @@ use Rattle.std.proofs.Common.{◌≡◌, ◌<◌, Some, sym, ap, subst, ◌∙�
 use Rattle.std.proofs.lemmas.Result.{IfOk-weaker}
 use Rattle.std.specs.Prelude.{option_and_then, slice_get}
 use Rattle.lc_core.specs.Log.{area_of}
-use Rattle.lc_core.specs.declared.node.Node.{Node}
+use Rattle.lc_core.specs.declared.node_state.NodeState.{NodeState}
 use Rattle.lc_core.specs.LogWords.{StandsOn}
 use Rattle.lc_core.specs.Places.{same_some}
 use Rattle.lc_core.proofs.running.Running.log_bytes.Given.{Over}
@@ -67,26 +67,26 @@ returns-clause-devices g c =
 pub returns-clause-unknown : goal.returns-clause-unknown
 returns-clause-unknown g c its there none =
     let same : c.index_mut.result.now ≡ its = same_some c.index_mut.result.now its (sym (at g c) ∙ there) in
-    let nothing = c.bytes.ensures.unknown (ap (λ (n : Node g.row.D.Denot g.D.Area). area_of g.D.Area n.journal.log) same ∙ none) in (
+    let nothing = c.bytes.ensures.unknown (ap (λ (n : NodeState g.row.D.Denot g.D.Area). area_of g.D.Area n.journal.log) same ∙ none) in (
       nothing.0,
       record {
         now = _;
         geometry = refl;
         nodes = refl;
         travelling = refl;
-        desk = ap (λ (n : Node g.row.D.Denot g.D.Area). n.desk) same;
-        known = ap (λ (n : Node g.row.D.Denot g.D.Area). n.known) same;
+        desk = ap (λ (n : NodeState g.row.D.Denot g.D.Area). n.desk) same;
+        known = ap (λ (n : NodeState g.row.D.Denot g.D.Area). n.known) same;
         journal = record {
-          group = ap (λ (n : Node g.row.D.Denot g.D.Area). n.journal.group) same;
-          words = ap (λ (n : Node g.row.D.Denot g.D.Area). n.journal.words) same;
-          records = ap (λ (n : Node g.row.D.Denot g.D.Area). n.journal.records) same;
-          dropped = ap (λ (n : Node g.row.D.Denot g.D.Area). n.journal.dropped) same;
-          trimmed = ap (λ (n : Node g.row.D.Denot g.D.Area). n.journal.trimmed) same;
-          taken = ap (λ (n : Node g.row.D.Denot g.D.Area). n.journal.taken) same;
-          acked = ap (λ (n : Node g.row.D.Denot g.D.Area). n.journal.acked) same;
-          round = ap (λ (n : Node g.row.D.Denot g.D.Area). n.journal.round) same;
+          group = ap (λ (n : NodeState g.row.D.Denot g.D.Area). n.journal.group) same;
+          words = ap (λ (n : NodeState g.row.D.Denot g.D.Area). n.journal.words) same;
+          records = ap (λ (n : NodeState g.row.D.Denot g.D.Area). n.journal.records) same;
+          dropped = ap (λ (n : NodeState g.row.D.Denot g.D.Area). n.journal.dropped) same;
+          trimmed = ap (λ (n : NodeState g.row.D.Denot g.D.Area). n.journal.trimmed) same;
+          taken = ap (λ (n : NodeState g.row.D.Denot g.D.Area). n.journal.taken) same;
+          acked = ap (λ (n : NodeState g.row.D.Denot g.D.Area). n.journal.acked) same;
+          round = ap (λ (n : NodeState g.row.D.Denot g.D.Area). n.journal.round) same;
         };
-        keeps = subst (λ (n : Node g.row.D.Denot g.D.Area). StandsOn g.D.Area n.journal.log c.bytes.new.self) same c.bytes.ensures.keeps;
+        keeps = subst (λ (n : NodeState g.row.D.Denot g.D.Area). StandsOn g.D.Area n.journal.log c.bytes.new.self) same c.bytes.ensures.keeps;
       },
       nothing.1,
     )
@@ -94,7 +94,7 @@ returns-clause-unknown g c its there none =
 pub returns-clause-read : goal.returns-clause-read
 returns-clause-read g c area its there some =
     let same : c.index_mut.result.now ≡ its = same_some c.index_mut.result.now its (sym (at g c) ∙ there) in
-    let read = c.bytes.ensures.read area (ap (λ (n : Node g.row.D.Denot g.D.Area). area_of g.D.Area n.journal.log) same ∙ some) in (
+    let read = c.bytes.ensures.read area (ap (λ (n : NodeState g.row.D.Denot g.D.Area). area_of g.D.Area n.journal.log) same ∙ some) in (
       read.0,
       record {
         kept = record {
@@ -102,19 +102,19 @@ returns-clause-read g c area its there some =
           geometry = refl;
           nodes = refl;
           travelling = refl;
-          desk = ap (λ (n : Node g.row.D.Denot g.D.Area). n.desk) same;
-          known = ap (λ (n : Node g.row.D.Denot g.D.Area). n.known) same;
+          desk = ap (λ (n : NodeState g.row.D.Denot g.D.Area). n.desk) same;
+          known = ap (λ (n : NodeState g.row.D.Denot g.D.Area). n.known) same;
           journal = record {
-            group = ap (λ (n : Node g.row.D.Denot g.D.Area). n.journal.group) same;
-            words = ap (λ (n : Node g.row.D.Denot g.D.Area). n.journal.words) same;
-            records = ap (λ (n : Node g.row.D.Denot g.D.Area). n.journal.records) same;
-            dropped = ap (λ (n : Node g.row.D.Denot g.D.Area). n.journal.dropped) same;
-            trimmed = ap (λ (n : Node g.row.D.Denot g.D.Area). n.journal.trimmed) same;
-            taken = ap (λ (n : Node g.row.D.Denot g.D.Area). n.journal.taken) same;
-            acked = ap (λ (n : Node g.row.D.Denot g.D.Area). n.journal.acked) same;
-            round = ap (λ (n : Node g.row.D.Denot g.D.Area). n.journal.round) same;
+            group = ap (λ (n : NodeState g.row.D.Denot g.D.Area). n.journal.group) same;
+            words = ap (λ (n : NodeState g.row.D.Denot g.D.Area). n.journal.words) same;
+            records = ap (λ (n : NodeState g.row.D.Denot g.D.Area). n.journal.records) same;
+            dropped = ap (λ (n : NodeState g.row.D.Denot g.D.Area). n.journal.dropped) same;
+            trimmed = ap (λ (n : NodeState g.row.D.Denot g.D.Area). n.journal.trimmed) same;
+            taken = ap (λ (n : NodeState g.row.D.Denot g.D.Area). n.journal.taken) same;
+            acked = ap (λ (n : NodeState g.row.D.Denot g.D.Area). n.journal.acked) same;
+            round = ap (λ (n : NodeState g.row.D.Denot g.D.Area). n.journal.round) same;
           };
-          keeps = subst (λ (n : Node g.row.D.Denot g.D.Area). StandsOn g.D.Area n.journal.log c.bytes.new.self) same c.bytes.ensures.keeps;
+          keeps = subst (λ (n : NodeState g.row.D.Denot g.D.Area). StandsOn g.D.Area n.journal.log c.bytes.new.self) same c.bytes.ensures.keeps;
         };
         next = read.1.next;
         there = read.1.there;
@@ -123,4 +123,4 @@ returns-clause-read g c area its there some =
     )
 
 pub returns-clause-bytes : goal.returns-clause-bytes
-returns-clause-bytes g c = IfOk-weaker c.bytes.result _ _ (λ bytes filled area there. filled area (sym (ap (option_and_then (λ (its : Node g.row.D.Denot g.D.Area). area_of g.D.Area its.journal.log)) (at g c)) ∙ there)) c.bytes.ensures.bytes
+returns-clause-bytes g c = IfOk-weaker c.bytes.result _ _ (λ bytes filled area there. filled area (sym (ap (option_and_then (λ (its : NodeState g.row.D.Denot g.D.Area). area_of g.D.Area its.journal.log)) (at g c)) ∙ there)) c.bytes.ensures.bytes

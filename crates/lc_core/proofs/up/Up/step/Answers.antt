@@ -2,7 +2,7 @@ use Rattle.std.proofs.Common.{refl, sym, subst}
 use Rattle.std.proofs.lemmas.Result.{IfOk-weaker}
 use Rattle.lc_model.specs.declared.event.Event.{Event}
 use Rattle.lc_core.specs.Calls.{CallsArea}
-use Rattle.lc_core.specs.declared.phase.Phase.TheVariants.{Up}
+use Rattle.lc_core.specs.declared.world_phase.WorldPhase.TheVariants.{Up}
 use Rattle.lc_core.proofs.Failures.{up_counts, up_still_failed}
 use Rattle.lc_core.proofs.Logged.{err_then}
 use Rattle.lc_core.proofs.Recoveries.{runs_up}

@@ -1,7 +1,7 @@
 use Rattle.std.proofs.Common.{refl, subst}
 use Rattle.lc_record.specs.declared.geometry.Geometry.{Geometry}
 use Rattle.lc_rest.specs.AtRest.{HasPart}
-use Rattle.lc_rest.specs.declared.part.Part.TheVariants.{Seat}
+use Rattle.lc_rest.specs.declared.cluster_part.ClusterPart.TheVariants.{Seat}
 use Rattle.lc_core.proofs.ClusterReads.{logs_whole}
 use Rattle.lc_core.proofs.ReadOf.{all_pass, are_read, cluster_read, is_built, is_read, one_fails, one_of_cluster}
 use Rattle.lc_core.proofs.SameFaults.{same_fault}

@@ -4,14 +4,14 @@ use Rattle.std.specs.Prelude.{Result, OnErr}
 use Rattle.lc_record.specs.declared.geometry.Geometry.{Geometry}
 use Rattle.lc_record.proofs.ListLemmas.{OnErr_from as on_err}
 use Rattle.lc_recover.specs.Recovery.{Recovering, IsLast, TakesMemory, all_steps}
-use Rattle.lc_core.specs.declared.phase.Phase.TheVariants.{Down, Taken, Up}
+use Rattle.lc_core.specs.declared.world_phase.WorldPhase.TheVariants.{Down, Taken, Up}
 use Rattle.lc_core.proofs.Living.{down_told, turn_told}
 use Rattle.lc_core.proofs.Refusing.{if_ok_both}
 use Rattle.lc_recover.specs.declared.fault.RecoverFault.{RecoverFault}
 use Rattle.lc_core.proofs.Logged.{err_then}
 use Rattle.lc_core.specs.Recovering.{RepliesTo}
 use Rattle.lc_core.specs.World.{AsksIn}
-use Rattle.lc_core.specs.declared.phase.Phase.{Phase}
+use Rattle.lc_core.specs.declared.world_phase.WorldPhase.{WorldPhase}
 use Rattle.lc_model.specs.declared.event.Event.TheVariants.{RecoverStep}
 use Rattle.lc_recover.specs.Recovery.{IsDone}
 use Rattle.lc_recover.specs.declared.progress.Progress.{Progress}
@@ -69,7 +69,7 @@ returns-then-not-is_last-clause-follows g c =
 
 pub returns-then-not-is_last-clause-memory : goal.returns-then-not-is_last-clause-memory
 returns-then-not-is_last-clause-memory g c =
-    err_then c.reply_to.result (wants g c) (λ asks. subst (λ (p : Phase g.row.D.Denot g.D.Area). AsksIn g.D.Area p RecoverStep) (sym c.in-Down.is) (inl asks.0))
+    err_then c.reply_to.result (wants g c) (λ asks. subst (λ (p : WorldPhase g.row.D.Denot g.D.Area). AsksIn g.D.Area p RecoverStep) (sym c.in-Down.is) (inl asks.0))
 
 pub returns-then-not-is_last-clause-err : goal.returns-then-not-is_last-clause-err
 returns-then-not-is_last-clause-err g c =
@@ -98,23 +98,23 @@ module _ (g : Over) (c : After-step-2 g) where
   }
 
 module _ (g : Over) (c : goal.After-drop-room-in-Err-3 g) where
-  replies-last : RepliesTo c.step-2.result c.stopped.result
-  replies-last = subst (λ (r : Result Progress RecoverFault). RepliesTo r c.stopped.result) (sym c.in-Err.is) c.stopped.ensures
+  replies-last : RepliesTo c.step-2.result c.fault_reply.result
+  replies-last = subst (λ (r : Result Progress RecoverFault). RepliesTo r c.fault_reply.result) (sym c.in-Err.is) c.fault_reply.ensures
 
 pub returns-in-Err-clause-follows : goal.returns-in-Err-clause-follows
 returns-in-Err-clause-follows g c =
-    down_follows g.D.Area c.args.self.now.phase c.in-Down.recovery c.step-2.new.self c.in-Down.is c.step-2.result c.stopped.result (replies-last g c) (leaves-last g (goal.at.returns-in-Err-clause-follows g c).After-step-2)
+    down_follows g.D.Area c.args.self.now.phase c.in-Down.recovery c.step-2.new.self c.in-Down.is c.step-2.result c.fault_reply.result (replies-last g c) (leaves-last g (goal.at.returns-in-Err-clause-follows g c).After-step-2)
     (λ p is done. (let none : Ok p ≡ Err c.in-Err.fault = sym is ∙ c.in-Err.is in absurd cc))
 
 pub returns-in-Err-clause-err : goal.returns-in-Err-clause-err
 returns-in-Err-clause-err g c =
-    err_then c.stopped.result (down_wants g.D.Area c.args.self.now.phase c.in-Down.recovery c.step-2.new.self c.in-Down.is c.step-2.result c.stopped.result (replies-last g c) (leaves-last g (goal.at.returns-in-Err-clause-err g c).After-step-2))
+    err_then c.fault_reply.result (down_wants g.D.Area c.args.self.now.phase c.in-Down.recovery c.step-2.new.self c.in-Down.is c.step-2.result c.fault_reply.result (replies-last g c) (leaves-last g (goal.at.returns-in-Err-clause-err g c).After-step-2))
     (λ asks. same_still g.D.Area c.args.self.now.phase c.in-Down.recovery c.step-2.new.self c.in-Down.is asks.1)
 
 pub returns-clause-follows : goal.returns-clause-follows
 returns-clause-follows g c =
     let up = c.risen.ensures c.step-2.new.self c.replace.ensures.value in
-    subst (λ (p : Phase g.row.D.Denot g.D.Area). FollowsPhase g.D.Area c.args.self.now.phase RecoverStep Recovered p) (sym up.1)
+    subst (λ (p : WorldPhase g.row.D.Denot g.D.Area). FollowsPhase g.D.Area c.args.self.now.phase RecoverStep Recovered p) (sym up.1)
     (comes_up g.D.Area c.args.self.now.phase c.in-Down.recovery c.step-2.new.self c.in-Down.is up.0 (leaves-last g (goal.at.returns-clause-follows g c).After-step-2) up.2)
 
 pub risen-requires-clause-done : goal.risen-requires-clause-done
@@ -141,7 +141,7 @@ invariant_of-self-2 g c = record {
 
 pub returns-in-Err-clause-memory : goal.returns-in-Err-clause-memory
 returns-in-Err-clause-memory g c =
-    on_err c.stopped.result _ (subst (λ (p : Phase g.row.D.Denot g.D.Area). AsksIn g.D.Area p RecoverStep) (sym c.in-Down.is) (inr (c.is_last.ensures.0 c.if-not-is_last.false)))
+    on_err c.fault_reply.result _ (subst (λ (p : WorldPhase g.row.D.Denot g.D.Area). AsksIn g.D.Area p RecoverStep) (sym c.in-Down.is) (inr (c.is_last.ensures.0 c.if-not-is_last.false)))
 
 pub returns-in_default-clause-faults : goal.returns-in_default-clause-faults
 returns-in_default-clause-faults g c = no_faults (Refused OutOfTurn) _ _ refl refl
@@ -156,17 +156,17 @@ returns-then-not-is_last-clause-no_fault g c =
 
 pub returns-in-Err-clause-faults : goal.returns-in-Err-clause-faults
 returns-in-Err-clause-faults g c =
-    phase_counts g.D.Area c.in-Down.recovery c.step-2.new.self c.args.self.now.phase c.in-Down.is c.step-2.result c.stopped.result (replies-last g c) (calls-last g (goal.at.returns-in-Err-clause-faults g c).After-step-2)
+    phase_counts g.D.Area c.in-Down.recovery c.step-2.new.self c.args.self.now.phase c.in-Down.is c.step-2.result c.fault_reply.result (replies-last g c) (calls-last g (goal.at.returns-in-Err-clause-faults g c).After-step-2)
 
 pub returns-in-Err-clause-no_fault : goal.returns-in-Err-clause-no_fault
 returns-in-Err-clause-no_fault g c =
-    err_then c.stopped.result (down_wants g.D.Area c.args.self.now.phase c.in-Down.recovery c.step-2.new.self c.in-Down.is c.step-2.result c.stopped.result (replies-last g c) (leaves-last g (goal.at.returns-in-Err-clause-no_fault g c).After-step-2))
+    err_then c.fault_reply.result (down_wants g.D.Area c.args.self.now.phase c.in-Down.recovery c.step-2.new.self c.in-Down.is c.step-2.result c.fault_reply.result (replies-last g c) (leaves-last g (goal.at.returns-in-Err-clause-no_fault g c).After-step-2))
     (λ asks. down_failures g.D.Area c.args.self.now.phase c.in-Down.recovery c.step-2.new.self c.in-Down.is asks.1)
 
 pub returns-clause-faults : goal.returns-clause-faults
 returns-clause-faults g c =
     let up = c.risen.ensures c.step-2.new.self c.replace.ensures.value in
-    subst (λ (p : Phase g.row.D.Denot g.D.Area). CountsPhase g.D.Area c.args.self.now.phase Recovered p) (sym up.1)
+    subst (λ (p : WorldPhase g.row.D.Denot g.D.Area). CountsPhase g.D.Area c.args.self.now.phase Recovered p) (sym up.1)
     (risen_counts g.D.Area c.args.self.now.phase c.in-Down.recovery c.step-2.new.self c.in-Down.is c.step-2.result c.in_default-step.not-Err (calls-last g (goal.at.returns-clause-faults g c).After-step-2) up.0 up.2)
 
 pub returns-in_default-clause-recovers : goal.returns-in_default-clause-recovers
@@ -216,14 +216,14 @@ module _ (g : Over) (c : goal.After-drop-room-in-Err-3 g) where
 
 pub returns-in-Err-clause-recovers : goal.returns-in-Err-clause-recovers
 returns-in-Err-clause-recovers g c =
-    down_recovers g.D.Area c.in-Down.recovery c.step-2.new.self c.args.self.now.phase c.in-Down.is c.step-2.result c.stopped.result (replies-last g c) (says-last g c)
+    down_recovers g.D.Area c.in-Down.recovery c.step-2.new.self c.args.self.now.phase c.in-Down.is c.step-2.result c.fault_reply.result (replies-last g c) (says-last g c)
     (λ p is done. (let none : Ok p ≡ Err c.in-Err.fault = sym is ∙ c.in-Err.is in absurd cc))
 
 pub returns-clause-recovers : goal.returns-clause-recovers
 returns-clause-recovers g c =
     let up = c.risen.ensures c.step-2.new.self c.replace.ensures.value in
     let last : IsLast c.in-Down.recovery = c.is_last.ensures.0 c.if-not-is_last.false in
-    subst (λ (p : Phase g.row.D.Denot g.D.Area). RecoversDown g.D.Area c.args.self.now.phase Recovered p) (sym up.1)
+    subst (λ (p : WorldPhase g.row.D.Denot g.D.Area). RecoversDown g.D.Area c.args.self.now.phase Recovered p) (sym up.1)
     (risen_recovers g.D.Area c.args.self.now.phase c.in-Down.recovery c.in-Down.is last up.0)
 
 pub returns-in_default-clause-at_once : goal.returns-in_default-clause-at_once
@@ -235,7 +235,7 @@ returns-then-not-is_last-clause-at_once g c =
 
 pub returns-in-Err-clause-at_once : goal.returns-in-Err-clause-at_once
 returns-in-Err-clause-at_once g c =
-    IfOk-any c.stopped.result (λ reply. down_asks g.D.Area c.args.self.now.phase c.in-Down.recovery c.in-Down.is reply (Down c.step-2.new.self))
+    IfOk-any c.fault_reply.result (λ reply. down_asks g.D.Area c.args.self.now.phase c.in-Down.recovery c.in-Down.is reply (Down c.step-2.new.self))
 
 pub returns-clause-at_once : goal.returns-clause-at_once
 returns-clause-at_once g c = down_asks g.D.Area c.args.self.now.phase c.in-Down.recovery c.in-Down.is Recovered _
@@ -250,7 +250,7 @@ pub returns-in-Err-clause-geometry : goal.returns-in-Err-clause-geometry
 returns-in-Err-clause-geometry g c = down_geometry g.D.Area c.args.self.now.phase c.in-Down.recovery c.step-2.new.self c.in-Down.is c.step-2.ensures.geometry
 
 pub returns-in-Err-clause-unknown : goal.returns-in-Err-clause-unknown
-returns-in-Err-clause-unknown g c = replies_known c.step-2.result c.stopped.result (replies-last g c)
+returns-in-Err-clause-unknown g c = replies_known c.step-2.result c.fault_reply.result (replies-last g c)
 
 pub returns-clause-geometry : goal.returns-clause-geometry
 returns-clause-geometry g c =
@@ -266,7 +266,7 @@ returns-then-not-is_last-clause-calls g c =
 
 pub returns-in-Err-clause-calls : goal.returns-in-Err-clause-calls
 returns-in-Err-clause-calls g c =
-    down_calls g.D.Area c.in-Down.recovery c.step-2.new.self c.step-2.ensures.geometry c.args.self.now.phase c.in-Down.is c.step-2.result c.stopped.result (replies-last g c)
+    down_calls g.D.Area c.in-Down.recovery c.step-2.new.self c.step-2.ensures.geometry c.args.self.now.phase c.in-Down.is c.step-2.result c.fault_reply.result (replies-last g c)
     (calls-last g (goal.at.returns-in-Err-clause-calls g c).After-step-2) c.step-2.ensures.steps c.step-2.ensures.progress
 
 pub returns-clause-calls : goal.returns-clause-calls
@@ -285,15 +285,15 @@ returns-in_err-room-clause-kept g c = on_err c.from_residual.result _ (down_keep
 
 pub returns-in-Err-clause-kept : goal.returns-in-Err-clause-kept
 returns-in-Err-clause-kept g c =
-    err_then c.stopped.result (down_wants g.D.Area c.args.self.now.phase c.in-Down.recovery c.step-2.new.self c.in-Down.is c.step-2.result c.stopped.result (replies-last g c) (leaves-last g (goal.at.returns-in-Err-clause-kept g c).After-step-2))
+    err_then c.fault_reply.result (down_wants g.D.Area c.args.self.now.phase c.in-Down.recovery c.step-2.new.self c.in-Down.is c.step-2.result c.fault_reply.result (replies-last g c) (leaves-last g (goal.at.returns-in-Err-clause-kept g c).After-step-2))
     (λ asks. down_keeps g.D.Area c.args.self.now.phase c.in-Down.recovery c.step-2.new.self c.in-Down.is asks.1)
 
 pub returns-in-Err-clause-names : goal.returns-in-Err-clause-names
-returns-in-Err-clause-names g c = replies_of c.step-2.result c.stopped.result (replies-last g c)
+returns-in-Err-clause-names g c = replies_of c.step-2.result c.fault_reply.result (replies-last g c)
 
 pub returns-in-Err-clause-same : goal.returns-in-Err-clause-same
 returns-in-Err-clause-same g c =
-    err_then c.stopped.result (down_wants g.D.Area c.args.self.now.phase c.in-Down.recovery c.step-2.new.self c.in-Down.is c.step-2.result c.stopped.result (replies-last g c) (leaves-last g (goal.at.returns-in-Err-clause-same g c).After-step-2))
+    err_then c.fault_reply.result (down_wants g.D.Area c.args.self.now.phase c.in-Down.recovery c.step-2.new.self c.in-Down.is c.step-2.result c.fault_reply.result (replies-last g c) (leaves-last g (goal.at.returns-in-Err-clause-same g c).After-step-2))
     (λ asks. same_down g.D.Area c.args.self.now.phase c.in-Down.recovery c.step-2.new.self c.in-Down.is asks.1)
 
 pub returns-in_default-clause-anyhow : goal.returns-in_default-clause-anyhow
@@ -309,19 +309,19 @@ returns-then-not-is_last-clause-anyhow g c = IfOk-weaker c.reply_to.result _ _
     (replies_of c.step.result c.reply_to.result c.reply_to.ensures))
 
 pub returns-in-Err-clause-anyhow : goal.returns-in-Err-clause-anyhow
-returns-in-Err-clause-anyhow g c = IfOk-weaker c.stopped.result _ _
+returns-in-Err-clause-anyhow g c = IfOk-weaker c.fault_reply.result _ _
     (λ reply all. down_told g.D.Area c.args.self.now.phase c.in-Down.recovery reply (Down c.step-2.new.self) c.in-Down.is all.0 all.1.0 (λ is. absurd (all.1.1 is)))
-    (if_ok_both c.stopped.result _ _
-    (down_recovers g.D.Area c.in-Down.recovery c.step-2.new.self c.args.self.now.phase c.in-Down.is c.step-2.result c.stopped.result (replies-last g c) (says-last g c)
+    (if_ok_both c.fault_reply.result _ _
+    (down_recovers g.D.Area c.in-Down.recovery c.step-2.new.self c.args.self.now.phase c.in-Down.is c.step-2.result c.fault_reply.result (replies-last g c) (says-last g c)
     (λ p is done. (let none : Ok p ≡ Err c.in-Err.fault = sym is ∙ c.in-Err.is in absurd cc)))
-    (if_ok_both c.stopped.result _ _ (replies_of c.step-2.result c.stopped.result (replies-last g c)) (not_recovered ⊥ c.in-Err.fault c.stopped.result c.stopped.ensures)))
+    (if_ok_both c.fault_reply.result _ _ (replies_of c.step-2.result c.fault_reply.result (replies-last g c)) (not_recovered ⊥ c.in-Err.fault c.fault_reply.result c.fault_reply.ensures)))
 
 pub returns-clause-anyhow : goal.returns-clause-anyhow
 returns-clause-anyhow g c =
     let up = c.risen.ensures c.step-2.new.self c.replace.ensures.value in
     let last : IsLast c.in-Down.recovery = c.is_last.ensures.0 c.if-not-is_last.false in
     down_told g.D.Area c.args.self.now.phase c.in-Down.recovery Recovered c.risen.result c.in-Down.is
-    (subst (λ (p : Phase g.row.D.Denot g.D.Area). RecoversDown g.D.Area c.args.self.now.phase Recovered p) (sym up.1)
+    (subst (λ (p : WorldPhase g.row.D.Denot g.D.Area). RecoversDown g.D.Area c.args.self.now.phase Recovered p) (sym up.1)
     (risen_recovers g.D.Area c.args.self.now.phase c.in-Down.recovery c.in-Down.is last up.0))
     refl
     (λ is. begins_in g.D.Area c.args.self.now.phase c.in-Down.recovery c.step-2.new.self up.0 c.risen.result c.in-Down.is c.step-2.ensures.geometry up.1 up.2)

@@ -9,13 +9,13 @@ use Rattle.lc_core.specs.Calls.{CallsArea}
 use Rattle.lc_core.specs.Lives.{Anyhow}
 use Rattle.lc_core.specs.World.{AsksIn, Leads}
 use Rattle.lc_core.specs.Faults.{CountsPhase, phase_failures}
-use Rattle.lc_core.specs.declared.phase.Phase.{Phase}
+use Rattle.lc_core.specs.declared.world_phase.WorldPhase.{WorldPhase}
 use Rattle.lc_core.proofs.Asking.{asks_world}
 use Rattle.lc_core.proofs.Geometries.{down_outside, recovers_outside, stops_outside, up_geometry, up_outside}
 use Rattle.lc_core.proofs.Logged.{err_then}
 use Rattle.lc_core.proofs.OneArea.{calls_none, up_calls, up_keeps}
 use Rattle.lc_core.proofs.Recovers.{IfOk-any, down_refuses, stop_asks, up_asks}
-use Rattle.lc_core.specs.declared.phase.Phase.TheVariants.{Up}
+use Rattle.lc_core.specs.declared.world_phase.WorldPhase.TheVariants.{Up}
 use Rattle.lc_core.proofs.Recoveries.{else_works, up_follows, up_still}
 use Rattle.lc_core.proofs.Living.{others_told, same_still_lives, up_still_lives, up_told}
 use Rattle.lc_core.proofs.CallsTold.{refused_free}
@@ -41,7 +41,7 @@ returns-in-RecoverStep-clause-asks g c = err_then c.recover_step.result c.recove
 
 pub returns-in-Up-clause-asks : goal.returns-in-Up-clause-asks
 returns-in-Up-clause-asks g c = err_then c.step.result c.step.ensures.memory (λ wants.
-    asks_world g.D.Area c.args.self.now c.args.event.now (subst (λ (p : Phase g.row.D.Denot g.D.Area). AsksIn g.D.Area p c.args.event.now) (sym c.in-Up.is) wants))
+    asks_world g.D.Area c.args.self.now c.args.event.now (subst (λ (p : WorldPhase g.row.D.Denot g.D.Area). AsksIn g.D.Area p c.args.event.now) (sym c.in-Up.is) wants))
 
 pub returns-in-Up-clause-err : goal.returns-in-Up-clause-err
 returns-in-Up-clause-err g c = err_then c.step.result (on_err_both c.step.result _ _ c.step.ensures.err c.step.ensures.kept)
@@ -49,7 +49,7 @@ returns-in-Up-clause-err g c = err_then c.step.result (on_err_both c.step.result
 
 pub returns-in-Up-clause-faults : goal.returns-in-Up-clause-faults
 returns-in-Up-clause-faults g c = IfOk-weaker c.step.result _ _
-    (λ reply counts. subst (λ (p : Phase g.row.D.Denot g.D.Area). CountsPhase g.D.Area p reply (Up c.step.new.self)) (sym c.in-Up.is) counts)
+    (λ reply counts. subst (λ (p : WorldPhase g.row.D.Denot g.D.Area). CountsPhase g.D.Area p reply (Up c.step.new.self)) (sym c.in-Up.is) counts)
     c.step.ensures.faults
 
 pub returns-in-Up-clause-no_fault : goal.returns-in-Up-clause-no_fault

@@ -9,9 +9,9 @@ use Rattle.lc_node.specs.Works.{Works}
 use Rattle.lc_node.specs.declared.put.Put.{Put}
 use Rattle.lc_node.proofs.PutBytes.{agree}
 use Rattle.lc_node.proofs.WorkSteps.{works_nothing, works_then}
-use Rattle.lc_names.specs.Answers.{Alters, Answers, Change, Decides, IsOfEntry, WantsMemory, left_by}
-use Rattle.lc_names.specs.declared.answer.Answer.{Answer}
-use Rattle.lc_names.specs.declared.answer.Answer.TheVariants.{Done}
+use Rattle.lc_names.specs.Answers.{Alters, Answers, EntryChange, Decides, IsOfEntry, WantsMemory, left_by}
+use Rattle.lc_names.specs.declared.name_answer.NameAnswer.{NameAnswer}
+use Rattle.lc_names.specs.declared.name_answer.NameAnswer.TheVariants.{Done}
 use Rattle.lc_names.specs.declared.name_fault.NameFault.{NameFault}
 use Rattle.lc_range.specs.RangeSet.{AddsPositions}
 use Rattle.lc_names.specs.Ask.{Asks, IsAsked, SetsEntry}
@@ -37,7 +37,7 @@ overflow_mul-put g c =
     let same = agree m old tx c.requires.runs c.read.new.images r.images in
     let told : Decides ask.command found (c.in_ok-change.change, c.in_ok-change.answer) = told_through (Decides ask.command found) c.decide.result c.map_err.result _ c.map_err.ensures.cases c.decide.ensures.decides _ c.in_ok-change.was in
     let change = c.in-Some.change in
-    let changes = subst (λ (o : Option Change). IfSome o (λ change. IsOfEntry (entries_in found) change × (c.in_ok-change.answer ≡ Ok Done))) c.in-Some.is told.0 in
+    let changes = subst (λ (o : Option EntryChange). IfSome o (λ change. IsOfEntry (entries_in found) change × (c.in_ok-change.answer ≡ Ok Done))) c.in-Some.is told.0 in
     let at : IsOfEntry (entries_in found) change = changes.0 in
     let ends = ends_within ask locked before mid found within is same change at in
     omega (arith, ends)
@@ -58,7 +58,7 @@ overflow_cast-put g c =
     let same = agree m old tx c.requires.runs c.read.new.images r.images in
     let told : Decides ask.command found (c.in_ok-change.change, c.in_ok-change.answer) = told_through (Decides ask.command found) c.decide.result c.map_err.result _ c.map_err.ensures.cases c.decide.ensures.decides _ c.in_ok-change.was in
     let change = c.in-Some.change in
-    let changes = subst (λ (o : Option Change). IfSome o (λ change. IsOfEntry (entries_in found) change × (c.in_ok-change.answer ≡ Ok Done))) c.in-Some.is told.0 in
+    let changes = subst (λ (o : Option EntryChange). IfSome o (λ change. IsOfEntry (entries_in found) change × (c.in_ok-change.answer ≡ Ok Done))) c.in-Some.is told.0 in
     let at : IsOfEntry (entries_in found) change = changes.0 in
     let ends = ends_within ask locked before mid found within is same change at in
     omega (arith, ends)
@@ -100,11 +100,11 @@ returns-in_err-run-clause-ran g c =
     let same = agree m old tx c.requires.runs c.read.new.images r.images in
     let told : Decides ask.command found (c.in_ok-change.change, c.in_ok-change.answer) = told_through (Decides ask.command found) c.decide.result c.map_err.result _ c.map_err.ensures.cases c.decide.ensures.decides _ c.in_ok-change.was in
     let change = c.in-Some.change in
-    let changes = subst (λ (o : Option Change). IfSome o (λ change. IsOfEntry (entries_in found) change × (c.in_ok-change.answer ≡ Ok Done))) c.in-Some.is told.0 in
+    let changes = subst (λ (o : Option EntryChange). IfSome o (λ change. IsOfEntry (entries_in found) change × (c.in_ok-change.answer ≡ Ok Done))) c.in-Some.is told.0 in
     let at : IsOfEntry (entries_in found) change = changes.0 in
     let ends = ends_within ask locked before mid found within is same change at in
-    let answers = subst (λ (o : Option Change). Answers ask.command found c.in_ok-change.answer (left_by o found)) c.in-Some.is told.1 in
-    let alters : Alters ask.command found = (left_by (Some change) found, subst (λ (a : Result Answer NameFault). Answers ask.command found a (left_by (Some change) found)) changes.1 answers) in
+    let answers = subst (λ (o : Option EntryChange). Answers ask.command found c.in_ok-change.answer (left_by o found)) c.in-Some.is told.1 in
+    let alters : Alters ask.command found = (left_by (Some change) found, subst (λ (a : Result NameAnswer NameFault). Answers ask.command found a (left_by (Some change) found)) changes.1 answers) in
     let after : Bytes = bytes_of m c.run.new.images in
     let ran = c.in_err-run.ensures.ran in
     let p = c.run.new.self in
@@ -142,21 +142,21 @@ returns-clause-ran g c =
             let wrote = w.in_ok-run.ensures.ran in
             let change = w.in-Some.change in
             let at : IsOfEntry (entries_in found) change =
-            (subst (λ (o : Option Change). IfSome o (λ change. IsOfEntry (entries_in found) change × (given ≡ Ok Done))) w.in-Some.is told.0).0 in
+            (subst (λ (o : Option EntryChange). IfSome o (λ change. IsOfEntry (entries_in found) change × (given ≡ Ok Done))) w.in-Some.is told.0).0 in
             subst (λ i. IsAsked ask locked before given (bytes_of m i)) (sym w.images-is)
             (asked_changed ask locked before mid found within is same change at given (bytes_of m w.run.new.images)
-            (subst (λ (o : Option Change). Answers ask.command found given (left_by o found)) w.in-Some.is told.1) wrote.1.2 (λ s lock apart. wrote.1.3 s lock apart))
+            (subst (λ (o : Option EntryChange). Answers ask.command found given (left_by o found)) w.in-Some.is told.1) wrote.1.2 (λ s lock apart. wrote.1.3 s lock apart))
         | in_default w ↦
             let none : c.in_ok-change.change ≡ None = search rules in
             subst (λ i. IsAsked ask locked before given (bytes_of m i)) (sym w.images-is)
-            (asked_same ask locked before mid found within is same given (subst (λ (o : Option Change). Answers ask.command found given (left_by o found)) none told.1))
+            (asked_same ask locked before mid found within is same given (subst (λ (o : Option EntryChange). Answers ask.command found given (left_by o found)) none told.1))
       ],
       elim c.match-change.branch [
         | in-Some+in_ok-run w ↦
             let wrote = w.in_ok-run.ensures.ran in
             let change = w.in-Some.change in
             let at : IsOfEntry (entries_in found) change =
-            (subst (λ (o : Option Change). IfSome o (λ change. IsOfEntry (entries_in found) change × (given ≡ Ok Done))) w.in-Some.is told.0).0 in
+            (subst (λ (o : Option EntryChange). IfSome o (λ change. IsOfEntry (entries_in found) change × (given ≡ Ok Done))) w.in-Some.is told.0).0 in
             let ends = ends_within ask locked before mid found within is same change at in
             subst (λ (t : Tx). SetsEntry ask tx.set t.set) (sym w.tx-is)
             (inr (change.0, ends, subst (λ (n : ℕ). AddsPositions tx.set SEGMENT (64 * change.0) n w.run.new.tx.set) at.1 wrote.1.1))

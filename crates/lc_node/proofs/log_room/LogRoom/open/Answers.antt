@@ -1,11 +1,11 @@
 use Rattle.std.proofs.Common.{◌≡◌, ◌≤◌, ◌++◌, ℕ, List, [], length, sym, ap, subst, ◌∙◌, arith, vec_capacity}
 use Rattle.std.specs.List.{concat}
-use Rattle.lc_stage.specs.declared.view.View.{View}
+use Rattle.lc_stage.specs.declared.stage_view.StageView.{StageView}
 use Rattle.lc_stage.specs.Staging.{flusher, open_count, AreRecords}
 use Rattle.lc_stage.specs.Seats.{flush_view}
 use Rattle.lc_trunc.specs.KnownClean.{known}
 use Rattle.lc_trunc.specs.Reset.{AreKnown}
-use Rattle.lc_ended.specs.Ended.{Kept}
+use Rattle.lc_ended.specs.Ended.{EndedWords}
 use Rattle.lc_ended.specs.Left.{IsLeft}
 use Rattle.lc_ended.proofs.Leaving.{left-none}
 use Rattle.lc_node.specs.Published.{records_of}
@@ -19,29 +19,29 @@ invariant_of-fill g c =
     let self = c.args.self in
     let words : ℕ = self.stage.room in
     let is : flush_view self.flusher ≡ flusher words = self.new_flusher in
-    let room : (flush_view self.flusher).room ≡ words = ap (λ (v : View). v.room) is in
+    let room : (flush_view self.flusher).room ≡ words = ap (λ (v : StageView). v.room) is in
     record {
       one_table = self.own_probe ∙ sym self.own_flusher;
-      idle_probe = ap (λ (v : View). open_count v.mine) self.new_probe;
+      idle_probe = ap (λ (v : StageView). open_count v.mine) self.new_probe;
       group_room = ap (λ x. x.room) self.empty_group ∙ sym room;
       stable_room = (let place : words ≤ vec_capacity self.stable = self.place in omega (arith, room, place));
-      at_round = ap (λ (v : View). length v.past) (sym is);
+      at_round = ap (λ (v : StageView). length v.past) (sym is);
       few_rounds = omega arith;
-      clear = ap (λ (v : View). v.ended_cleared) is ∙ sym (ap (λ (v : View). v.ended) is);
-      uncleared = ap (λ (v : View). v.cleared) is;
+      clear = ap (λ (v : StageView). v.ended_cleared) is ∙ sym (ap (λ (v : StageView). v.ended) is);
+      uncleared = ap (λ (v : StageView). v.cleared) is;
       records = subst AreRecords (sym self.empty) no_records;
-      left = subst (λ (p : List (List ℕ)). IsLeft p c.new-2.result self.ended.gone self.ended.words) (sym (ap (λ (v : View). v.past) is))
-          (subst (λ (e : Kept). IsLeft [] c.new-2.result e.gone e.words) (sym self.none_ended) (left-none c.new-2.result));
-      small = (let gone : self.ended.gone ≡ 0 = ap (λ (e : Kept). e.gone) self.none_ended in let long : length self.ended.words ≡ 0 = ap (λ (e : Kept). length e.words) self.none_ended in omega (arith, gone, long));
-      counted = none_counted ∙ (ap (λ (l : List ℕ). length (records_of l)) (sym self.empty) ∙ ap (λ (v : View). length (records_of (concat v.past ++ self.stable.items))) (sym is));
-      past_records = none_ended AreRecords (flush_view self.flusher).past (ap (λ (v : View). v.past) is);
-      published = (let p : (flush_view self.flusher).published ≡ 0 = ap (λ (v : View). v.published) is in omega (arith, p));
-      clean = none_ended (λ (words : List ℕ). AreKnown words (known c.new-2.result)) (flush_view self.flusher).past (ap (λ (v : View). v.past) is);
+      left = subst (λ (p : List (List ℕ)). IsLeft p c.new-2.result self.ended.gone self.ended.words) (sym (ap (λ (v : StageView). v.past) is))
+          (subst (λ (e : EndedWords). IsLeft [] c.new-2.result e.gone e.words) (sym self.none_ended) (left-none c.new-2.result));
+      small = (let gone : self.ended.gone ≡ 0 = ap (λ (e : EndedWords). e.gone) self.none_ended in let long : length self.ended.words ≡ 0 = ap (λ (e : EndedWords). length e.words) self.none_ended in omega (arith, gone, long));
+      counted = none_counted ∙ (ap (λ (l : List ℕ). length (records_of l)) (sym self.empty) ∙ ap (λ (v : StageView). length (records_of (concat v.past ++ self.stable.items))) (sym is));
+      past_records = none_ended AreRecords (flush_view self.flusher).past (ap (λ (v : StageView). v.past) is);
+      published = (let p : (flush_view self.flusher).published ≡ 0 = ap (λ (v : StageView). v.published) is in omega (arith, p));
+      clean = none_ended (λ (words : List ℕ). AreKnown words (known c.new-2.result)) (flush_view self.flusher).past (ap (λ (v : StageView). v.past) is);
       holds = (
-        self.empty ∙ sym (ap (λ (v : View). v.taken) is),
+        self.empty ∙ sym (ap (λ (v : StageView). v.taken) is),
         (
-          c.new.ensures.end ∙ ap (λ (v : View). length v.taken) (sym is),
-          λ honest. ([], c.new.ensures.idle honest, sym (ap (λ (v : View). v.taken) is)),
+          c.new.ensures.end ∙ ap (λ (v : StageView). length v.taken) (sym is),
+          λ honest. ([], c.new.ensures.idle honest, sym (ap (λ (v : StageView). v.taken) is)),
         ),
         (let e = ap (λ a. length (g.D.Area.now a)) c.new.ensures.area in omega (arith, room, e, c.requires.room)),
       );

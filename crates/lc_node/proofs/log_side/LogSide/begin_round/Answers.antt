@@ -1,5 +1,5 @@
 use Rattle.std.proofs.Common.{rules, ◌≡◌, ◌≢◌, ℕ, List, [], ◌∷◌, ◌++◌, ◌+◌, ◌≤◌, All, length, refl, sym, ap, subst, ◌∙◌, arith, length-append}
-use Rattle.lc_stage.specs.declared.view.View.{View}
+use Rattle.lc_stage.specs.declared.stage_view.StageView.{StageView}
 use Rattle.lc_stage.specs.Staging.{AreRecords}
 use Rattle.lc_stage.specs.Seats.{flush_view}
 use Rattle.std.proofs.lemmas.List.Elements.{All-append}
@@ -9,7 +9,7 @@ use Rattle.lc_node.proofs.Knowing.{all_alone}
 use Rattle.lc_node.proofs.FlushKeeps.{at_rest, reset_fails}
 use Rattle.lc_node.proofs.EndedRecords.{AreOf, records_known, spelled}
 use Rattle.lc_node.proofs.LeftWords.{left-reset, published-same}
-use Rattle.lc_ended.specs.Ended.{Kept}
+use Rattle.lc_ended.specs.Ended.{EndedWords}
 use Rattle.lc_node.specs.Ended.{HasRoom}
 use Rattle.lc_node.specs.Published.{published}
 use Rattle.lc_node.proofs.Rounds.{Reopened, reopened, to_clear, no_records}
@@ -21,15 +21,15 @@ use Rattle.lc_node.proofs.Unfit.{has_some, not_spent}
 use Rattle.lc_node.proofs.log_side.LogSide.begin_round.Goals as goal
 
 pub invariant_of-self-in-Ok-reset_sync : goal.invariant_of-self-in-Ok-reset_sync
-invariant_of-self-in-Ok-reset_sync g c = let inv = c.self.invariant in let v : View = flush_view c.self.inside.flusher in let v3 : View = flush_view c.publish.new.flusher in let w : View = flush_view c.clear.new.flusher in
+invariant_of-self-in-Ok-reset_sync g c = let inv = c.self.invariant in let v : StageView = flush_view c.self.inside.flusher in let v3 : StageView = flush_view c.publish.new.flusher in let w : StageView = flush_view c.clear.new.flusher in
     let some = has_some c.self.inside.stable.items (subst (λ (x : LogView g.row.D.Denot). x.stable ≢ []) (sym c.self.view_is) c.requires.can.0.1) in
     let not_last = not_spent c.self.inside.round c.self.invariant.few_rounds (subst (λ (x : LogView g.row.D.Denot). ¬ IsSpent x) (sym c.self.view_is) c.requires.can.1) in
     let known_all = subst (λ (x : LogView g.row.D.Denot). AreKnown x.stable (known x.known)) (sym c.self.view_is) c.requires.can.2 in
     let held = at_rest g.D.Area c.self.inside.log c.in-Idle.log _ v.taken _ inv.holds (sym c.replace.ensures.value ∙ c.in-Idle.is) in
     let o : Reopened v w = reopened v v3 _ w c.publish.ensures.published c.in-Ok-reopen.ensures.ok (c.clear.ensures.before (to_clear v v3 _ c.publish.ensures.published c.in-Ok-reopen.ensures.ok inv.uncleared (let n : (flush_view c.self.inside.flusher).sealed_at ≡ length c.self.inside.stable.items = subst (λ (x : LogView g.row.D.Denot). (flush_view x.flusher).sealed_at ≡ length x.stable) (sym c.self.view_is) c.requires.sealed.1 in let m = some in omega arith))) in
     let none : c.clear-in-Ok-reset_sync.new.self.items ≡ [] = c.clear-in-Ok-reset_sync.ensures.items in
-    let more_ended : c.extend.new.self.words ≡ c.self.inside.ended.words ++ c.self.inside.stable.items = ap (λ (e : Kept). e.words) c.extend.ensures ∙ ap (λ (l : List ℕ). c.self.inside.ended.words ++ l) c.as_slice.ensures.value in
-    let same_gone : c.extend.new.self.gone ≡ c.self.inside.ended.gone = ap (λ (e : Kept). e.gone) c.extend.ensures in
+    let more_ended : c.extend.new.self.words ≡ c.self.inside.ended.words ++ c.self.inside.stable.items = ap (λ (e : EndedWords). e.words) c.extend.ensures ∙ ap (λ (l : List ℕ). c.self.inside.ended.words ++ l) c.as_slice.ensures.value in
+    let same_gone : c.extend.new.self.gone ≡ c.self.inside.ended.gone = ap (λ (e : EndedWords). e.gone) c.extend.ensures in
     let its : AreOf c.self.inside.stable.items = spelled c.self.inside.stable.items inv.records in
     let closing = c.in-Ok.ensures in let synced = c.in-Ok-reset_sync.ensures in
     let more : length w.past ≡ length v.past + 1 = ap (λ (l : List (List ℕ)). length l) o.past ∙ length-append v.past (v.taken ∷ []) in
@@ -64,7 +64,7 @@ invariant_of-self-in-Ok-reset_sync g c = let inv = c.self.invariant in let v : V
     }
 
 pub invariant_of-self : goal.invariant_of-self
-invariant_of-self g c = let inv = c.self.invariant in let v : View = flush_view c.self.inside.flusher in let z : View = flush_view c.publish.new.flusher in
+invariant_of-self g c = let inv = c.self.invariant in let v : StageView = flush_view c.self.inside.flusher in let z : StageView = flush_view c.publish.new.flusher in
     let held = at_rest g.D.Area c.self.inside.log c.in-Idle.log _ v.taken _ inv.holds (sym c.replace.ensures.value ∙ c.in-Idle.is) in
     goes g.D.Area c.self.inside _ inv (record {
       one_table = search rules;
@@ -78,13 +78,13 @@ invariant_of-self g c = let inv = c.self.invariant in let v : View = flush_view 
       steps = steps_publishes v z c.publish.ensures.published;
       published = published_to c.self.inside.stable.items v z c.self.inside.round c.publish.ensures.published held.0 inv.at_round;
       holds = (
-        ([], ap (λ (y : View). y.taken) c.publish.ensures.published ∙ (sym held.0 ∙ sym (append-nil c.self.inside.stable.items))),
+        ([], ap (λ (y : StageView). y.taken) c.publish.ensures.published ∙ (sym held.0 ∙ sym (append-nil c.self.inside.stable.items))),
         reset_fails g.D.Area c.in-Idle.log.area c.in-Err.failed.area c.in-Idle.log.end v.taken c.self.inside.stable.items held.1 held.0 c.in-Err.ensures.failed_device.honest c.in-Err.ensures.failed,
       );
     })
 
 pub invariant_of-self-in-Err-reset_sync : goal.invariant_of-self-in-Err-reset_sync
-invariant_of-self-in-Err-reset_sync g c = let inv = c.self.invariant in let v : View = flush_view c.self.inside.flusher in let z : View = flush_view c.publish.new.flusher in
+invariant_of-self-in-Err-reset_sync g c = let inv = c.self.invariant in let v : StageView = flush_view c.self.inside.flusher in let z : StageView = flush_view c.publish.new.flusher in
     let held = at_rest g.D.Area c.self.inside.log c.in-Idle.log _ v.taken _ inv.holds (sym c.replace.ensures.value ∙ c.in-Idle.is) in
     goes g.D.Area c.self.inside _ inv (record {
       one_table = search rules;
@@ -98,7 +98,7 @@ invariant_of-self-in-Err-reset_sync g c = let inv = c.self.invariant in let v : 
       steps = steps_publishes v z c.publish.ensures.published;
       published = published_to c.self.inside.stable.items v z c.self.inside.round c.publish.ensures.published held.0 inv.at_round;
       holds = (
-        ([], ap (λ (y : View). y.taken) c.publish.ensures.published ∙ (sym held.0 ∙ sym (append-nil c.self.inside.stable.items))),
+        ([], ap (λ (y : StageView). y.taken) c.publish.ensures.published ∙ (sym held.0 ∙ sym (append-nil c.self.inside.stable.items))),
         reset_fails g.D.Area c.in-Idle.log.area c.in-Err-reset_sync.failed.area c.in-Idle.log.end v.taken c.self.inside.stable.items held.1 held.0
             (c.in-Err-reset_sync.ensures.failed_device.honest ∙ c.in-Ok.ensures.device.honest)
             (λ records idle. c.in-Err-reset_sync.ensures.failed records (c.in-Ok.ensures.closing records idle)),
@@ -106,7 +106,7 @@ invariant_of-self-in-Err-reset_sync g c = let inv = c.self.invariant in let v : 
     })
 
 pub extend-requires-clause-room : goal.extend-requires-clause-room
-extend-requires-clause-room g c = let v : View = flush_view c.self.inside.flusher in
+extend-requires-clause-room g c = let v : StageView = flush_view c.self.inside.flusher in
     let held = at_rest g.D.Area c.self.inside.log c.in-Idle.log _ v.taken _ c.self.invariant.holds (sym c.replace.ensures.value ∙ c.in-Idle.is) in
     let room : v.room ≤ c.self.inside.ended.room = subst (λ (x : LogView g.row.D.Denot). HasRoom x) (sym c.self.view_is) c.requires.room in
     let few : length v.taken ≤ v.room = c.self.inside.flusher.in_room in let all : length c.self.inside.stable.items ≡ length v.taken = ap (λ (l : List ℕ). length l) held.0 in
@@ -114,7 +114,7 @@ extend-requires-clause-room g c = let v : View = flush_view c.self.inside.flushe
     omega arith
 
 pub extend-requires-clause-small : goal.extend-requires-clause-small
-extend-requires-clause-small g c = let v : View = flush_view c.self.inside.flusher in
+extend-requires-clause-small g c = let v : StageView = flush_view c.self.inside.flusher in
     let held = at_rest g.D.Area c.self.inside.log c.in-Idle.log _ v.taken _ c.self.invariant.holds (sym c.replace.ensures.value ∙ c.in-Idle.is) in
     let few : length v.taken ≤ v.room = c.self.inside.flusher.in_room in let all : length c.self.inside.stable.items ≡ length v.taken = ap (λ (l : List ℕ). length l) held.0 in
     let same : length c.as_slice.result.now ≡ length c.self.inside.stable.items = ap (λ (l : List ℕ). length l) c.as_slice.ensures.value in
@@ -123,7 +123,7 @@ extend-requires-clause-small g c = let v : View = flush_view c.self.inside.flush
     omega arith
 
 pub returns-in-Ok-reopen-clause-published : goal.returns-in-Ok-reopen-clause-published
-returns-in-Ok-reopen-clause-published g c = let inv = c.self.invariant in let v : View = flush_view c.self.inside.flusher in let v3 : View = flush_view c.publish.new.flusher in let w : View = flush_view c.clear.new.flusher in
+returns-in-Ok-reopen-clause-published g c = let inv = c.self.invariant in let v : StageView = flush_view c.self.inside.flusher in let v3 : StageView = flush_view c.publish.new.flusher in let w : StageView = flush_view c.clear.new.flusher in
     let some = has_some c.self.inside.stable.items (subst (λ (x : LogView g.row.D.Denot). x.stable ≢ []) (sym c.self.view_is) c.requires.can.0.1) in
     let held = at_rest g.D.Area c.self.inside.log c.in-Idle.log _ v.taken _ inv.holds (sym c.replace.ensures.value ∙ c.in-Idle.is) in
     let o : Reopened v w = reopened v v3 _ w c.publish.ensures.published c.in-Ok-reopen.ensures.ok (c.clear.ensures.before (to_clear v v3 _ c.publish.ensures.published c.in-Ok-reopen.ensures.ok inv.uncleared (let n : (flush_view c.self.inside.flusher).sealed_at ≡ length c.self.inside.stable.items = subst (λ (x : LogView g.row.D.Denot). (flush_view x.flusher).sealed_at ≡ length x.stable) (sym c.self.view_is) c.requires.sealed.1 in let m = some in omega arith))) in

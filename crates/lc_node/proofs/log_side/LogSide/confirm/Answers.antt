@@ -1,6 +1,6 @@
 use Rattle.std.proofs.Common.{rules, ◌≡◌, ℕ, List, refl, sym, subst, ◌∙◌, length, arith}
 use Rattle.std.proofs.Math.ListN.{take}
-use Rattle.lc_stage.specs.declared.view.View.{View}
+use Rattle.lc_stage.specs.declared.stage_view.StageView.{StageView}
 use Rattle.lc_stage.specs.Staging.{Agree, AreRecords}
 use Rattle.lc_stage.specs.Seats.{commit_view, flush_view}
 use Rattle.lc_node.specs.Among.{AreInFront, IsAmong}
@@ -16,8 +16,8 @@ invariant_of-self-2 g c = stays g.D.Area c.self.inside c.meet-seat.new.flusher c
 
 pub count_in_front-index-requires-clause-records :
     goal.count_in_front-index-requires-clause-records
-count_in_front-index-requires-clause-records g c = let f : View = flush_view c.self.inside.flusher in let v : View = commit_view c.args.seat in let inv = c.self.invariant in
-    let agree : Agree f v = subst (λ (z : View × View). Agree z.0 z.1) (λ k. (c.meet-seat.ensures.views.0 k, c.meet-seat.ensures.views.1 k)) c.meet-seat.ensures.agree in
+count_in_front-index-requires-clause-records g c = let f : StageView = flush_view c.self.inside.flusher in let v : StageView = commit_view c.args.seat in let inv = c.self.invariant in
+    let agree : Agree f v = subst (λ (z : StageView × StageView). Agree z.0 z.1) (λ k. (c.meet-seat.ensures.views.0 k, c.meet-seat.ensures.views.1 k)) c.meet-seat.ensures.agree in
     let front = is_front g.D.Area _ _ _ _ inv.holds in let has = c.requires.received in let is = has.2 in
     let here : has.0.round ≡ length f.past = sym is.0 ∙ (sym c.round.ensures ∙ (c.if-round-self.false ∙ inv.at_round)) in
     let low = inv.published in let at = inv.at_round in
@@ -25,8 +25,8 @@ count_in_front-index-requires-clause-records g c = let f : View = flush_view c.s
     subst AreRecords (λ k. take ((sym is.1 ∙ sym c.place.ensures) k) (sym c.as_slice.ensures.value k)) s.before
 
 pub returns-clause-here : goal.returns-clause-here
-returns-clause-here g c = λ _. let f : View = flush_view c.self.inside.flusher in let v : View = commit_view c.args.seat in let inv = c.self.invariant in
-    let agree : Agree f v = subst (λ (z : View × View). Agree z.0 z.1) (λ k. (c.meet-seat.ensures.views.0 k, c.meet-seat.ensures.views.1 k)) c.meet-seat.ensures.agree in
+returns-clause-here g c = λ _. let f : StageView = flush_view c.self.inside.flusher in let v : StageView = commit_view c.args.seat in let inv = c.self.invariant in
+    let agree : Agree f v = subst (λ (z : StageView × StageView). Agree z.0 z.1) (λ k. (c.meet-seat.ensures.views.0 k, c.meet-seat.ensures.views.1 k)) c.meet-seat.ensures.agree in
     let front = is_front g.D.Area _ _ _ _ inv.holds in let low = inv.published in let at = inv.at_round in (
       c.count_in_front-index.result,
       refl,

@@ -1,5 +1,5 @@
 use Rattle.std.proofs.Common.{rules, ◌≡◌, ◌-◌, ◌+◌, ◌^◌, ◌<◌, ◌++◌, ℕ, List, take, drop, [], length, All, inr, refl, sym, ap, ◌∙◌, subst, arith}
-use Rattle.lc_stage.specs.declared.view.View.{View}
+use Rattle.lc_stage.specs.declared.stage_view.StageView.{StageView}
 use Rattle.lc_stage.specs.Seats.{flush_view}
 use Rattle.lc_stage.specs.Staging.{AreRecords}
 use Rattle.lc_stage.specs.Publishing.{HoldsTaken}
@@ -20,11 +20,11 @@ use Rattle.lc_node.proofs.log_side.LogSide.flush.Goals as goal
 
 pub overflow_add-self : goal.overflow_add-self
 overflow_add-self g c =
-    let v : View = flush_view c.self.inside.flusher in let w : View = flush_view c.take-words.new.flusher in let z : View = flush_view c.publish-in-Ok.new.flusher in let inv = c.self.invariant in
+    let v : StageView = flush_view c.self.inside.flusher in let w : StageView = flush_view c.take-words.new.flusher in let z : StageView = flush_view c.publish-in-Ok.new.flusher in let inv = c.self.invariant in
     let same = takes_and_publishes v w z c.take-words.ensures.takes c.publish-in-Ok.ensures.published in
     let held = at_rest g.D.Area c.self.inside.log c.in-Idle.log _ v.taken _ inv.holds (sym c.replace.ensures.value ∙ c.in-Idle.is) in
     let words : List ℕ = c.take-words.new.group.words in
-    let taken : z.taken ≡ w.taken = ap (λ (y : View). y.taken) c.publish-in-Ok.ensures.published in
+    let taken : z.taken ≡ w.taken = ap (λ (y : StageView). y.taken) c.publish-in-Ok.ensures.published in
     let all : c.keep.new.stable.items ≡ z.taken = c.keep.ensures.words ∙ (ap (λ (l : List ℕ). l ++ words) held.0 ∙ (sym c.take-words.ensures.words ∙ sym taken)) in
     let behind : take (length c.deref.result.now - c.len-start.result) (drop c.len-start.result c.deref.result.now) ≡ words = tail_is c.deref.result.now c.self.inside.stable.items words c.len-start.result (c.deref.ensures.value ∙ c.keep.ensures.words) (search rules) in
     let front : AreInFront words (length words) c.count_in_front-count.result = subst (λ (y : List ℕ × ℕ). AreInFront y.0 y.1 c.count_in_front-count.result) (λ k. (behind k, c.take-words.ensures.len k)) c.count_in_front-count.ensures in
@@ -48,10 +48,10 @@ publish-requires-in-Ok-clause-stable g c = let ws : List ℕ = c.take-words.new.
     (flush_holds g.D.Area c.in-Idle.log.area c.in-Ok.log.area c.in-Idle.log.end c.in-Ok.log.end taken ws held.1 c.take-words.ensures.records some c.in-Ok.ensures.device c.in-Ok.ensures.end c.in-Ok.ensures.flushed)
 
 pub invariant_of-self-in-Ok : goal.invariant_of-self-in-Ok
-invariant_of-self-in-Ok g c = let v : View = flush_view c.self.inside.flusher in let w : View = flush_view c.take-words.new.flusher in let z : View = flush_view c.publish-in-Ok.new.flusher in let inv = c.self.invariant in
+invariant_of-self-in-Ok g c = let v : StageView = flush_view c.self.inside.flusher in let w : StageView = flush_view c.take-words.new.flusher in let z : StageView = flush_view c.publish-in-Ok.new.flusher in let inv = c.self.invariant in
     let same = takes_and_publishes v w z c.take-words.ensures.takes c.publish-in-Ok.ensures.published in
     let held = at_rest g.D.Area c.self.inside.log c.in-Idle.log _ v.taken _ inv.holds (sym c.replace.ensures.value ∙ c.in-Idle.is) in
-    let taken : z.taken ≡ w.taken = ap (λ (y : View). y.taken) c.publish-in-Ok.ensures.published in
+    let taken : z.taken ≡ w.taken = ap (λ (y : StageView). y.taken) c.publish-in-Ok.ensures.published in
     let all : c.keep.new.stable.items ≡ z.taken = c.keep.ensures.words ∙ (ap (λ (l : List ℕ). l ++ c.take-words.new.group.words) held.0 ∙ (sym c.take-words.ensures.words ∙ sym taken)) in record {
       one_table = search rules;
       idle_probe = inv.idle_probe;
@@ -76,11 +76,11 @@ invariant_of-self-in-Ok g c = let v : View = flush_view c.self.inside.flusher in
     }
 
 pub invariant_of-self-then-words-eq0 : goal.invariant_of-self-then-words-eq0
-invariant_of-self-then-words-eq0 g c = let v : View = flush_view c.self.inside.flusher in let w : View = flush_view c.take-words.new.flusher in let z : View = flush_view c.publish.new.flusher in let inv = c.self.invariant in
+invariant_of-self-then-words-eq0 g c = let v : StageView = flush_view c.self.inside.flusher in let w : StageView = flush_view c.take-words.new.flusher in let z : StageView = flush_view c.publish.new.flusher in let inv = c.self.invariant in
     let same = takes_and_publishes v w z c.take-words.ensures.takes c.publish.ensures.published in
     let held = at_rest g.D.Area c.self.inside.log c.in-Idle.log _ v.taken _ inv.holds (sym c.replace.ensures.value ∙ c.in-Idle.is) in
     let none : c.take-words.new.group.words ≡ [] = no_words c.take-words.new.group.words (sym c.take-words.ensures.len ∙ c.if-words-eq0.true) in
-    let taken : z.taken ≡ v.taken = ap (λ (y : View). y.taken) c.publish.ensures.published ∙ (c.take-words.ensures.words ∙ (ap (λ (l : List ℕ). v.taken ++ l) none ∙ append-nil v.taken)) in
+    let taken : z.taken ≡ v.taken = ap (λ (y : StageView). y.taken) c.publish.ensures.published ∙ (c.take-words.ensures.words ∙ (ap (λ (l : List ℕ). v.taken ++ l) none ∙ append-nil v.taken)) in
     let all : c.self.inside.stable.items ≡ z.taken = held.0 ∙ sym taken in
     goes g.D.Area c.self.inside _ inv (record {
       one_table = search rules;
@@ -101,7 +101,7 @@ invariant_of-self-then-words-eq0 g c = let v : View = flush_view c.self.inside.f
     })
 
 pub invariant_of-self-in-Err : goal.invariant_of-self-in-Err
-invariant_of-self-in-Err g c = let v : View = flush_view c.self.inside.flusher in let w : View = flush_view c.take-words.new.flusher in let inv = c.self.invariant in
+invariant_of-self-in-Err g c = let v : StageView = flush_view c.self.inside.flusher in let w : StageView = flush_view c.take-words.new.flusher in let inv = c.self.invariant in
     let held = at_rest g.D.Area c.self.inside.log c.in-Idle.log _ v.taken _ inv.holds (sym c.replace.ensures.value ∙ c.in-Idle.is) in
     goes g.D.Area c.self.inside _ inv (record {
       one_table = search rules;
@@ -113,7 +113,7 @@ invariant_of-self-in-Err g c = let v : View = flush_view c.self.inside.flusher i
       same_known = refl;
       same_count = refl;
       steps = steps_takes v w c.take-words.ensures.takes;
-      published = (let old = inv.published in let same : w.published ≡ v.published = ap (λ (y : View). y.published) c.take-words.ensures.takes.1 in omega arith);
+      published = (let old = inv.published in let same : w.published ≡ v.published = ap (λ (y : StageView). y.published) c.take-words.ensures.takes.1 in omega arith);
       holds = (
         (c.take-words.new.group.words, c.take-words.ensures.words ∙ ap (λ (l : List ℕ). l ++ c.take-words.new.group.words) (sym held.0)),
         flush_fails g.D.Area c.in-Idle.log.area c.in-Err.failed.area c.in-Idle.log.end v.taken c.self.inside.stable.items held.1 held.0 c.in-Err.ensures.failed_device.honest

@@ -3,7 +3,7 @@ use Rattle.std.specs.Prelude.{IfErr}
 use Rattle.lc_stage.specs.Publishing.{HoldsTaken}
 use Rattle.lc_stage.specs.Seats.{commit_view, flush_view}
 use Rattle.lc_stage.specs.Staging.{Agree, AreRecords, end_of}
-use Rattle.lc_stage.specs.declared.view.View.{View}
+use Rattle.lc_stage.specs.declared.stage_view.StageView.{StageView}
 use Rattle.lc_trunc.specs.KnownClean.{known as known_of}
 use Rattle.lc_trunc.specs.Reset.{AreKnown}
 use Rattle.lc_rest.specs.declared.node_part.NodePart.{NodePart}
@@ -23,7 +23,7 @@ use Rattle.lc_node.proofs.log_side.LogSide.into_part.Goals.{then-end-geometry-vi
 pub returns-clause-kept : goal.returns-clause-kept
 returns-clause-kept g c =
     let inv = c.self.invariant in
-    let v : View = flush_view c.self.inside.flusher in
+    let v : StageView = flush_view c.self.inside.flusher in
     let held = at_rest g.D.Area c.self.inside.log c.in-Idle.log _ v.taken _ inv.holds c.in-Idle.is in
     let words : c.in_ok-staged.staged.items ≡ c.take-taken.new.group.words = c.in_ok-staged.ensures.words in
     let count : length c.in_ok-staged.staged.items ≡ c.take-taken.result = ap (λ (l : List ℕ). length l) words ∙ sym c.take-taken.ensures.len in
@@ -35,11 +35,11 @@ returns-clause-kept g c =
 pub returns-clause-left : goal.returns-clause-left
 returns-clause-left g c =
     let inv = c.self.invariant in
-    let v : View = flush_view c.self.inside.flusher in
-    let w : View = flush_view c.take-taken.new.flusher in
+    let v : StageView = flush_view c.self.inside.flusher in
+    let w : StageView = flush_view c.take-taken.new.flusher in
     let held = at_rest g.D.Area c.self.inside.log c.in-Idle.log _ v.taken _ inv.holds c.in-Idle.is in
     let words : c.in_ok-staged.staged.items ≡ c.take-taken.new.group.words = c.in_ok-staged.ensures.words in
-    let past : w.past ≡ v.past = ap (λ (y : View). y.past) c.take-taken.ensures.takes.1 in
+    let past : w.past ≡ v.past = ap (λ (y : StageView). y.past) c.take-taken.ensures.takes.1 in
     let at : c.self.inside.round ≡ length w.past = inv.at_round ∙ ap (λ (l : List (List ℕ)). length l) (sym past) in
     let tail : c.stable_tail-stable_tail.result ≡ c.self.inside.round * 65536 + length c.self.inside.stable.items =
     subst (λ (x : LogView g.row.D.Denot). c.stable_tail-stable_tail.result ≡ x.round * 65536 + length x.stable) (sym c.self.view_is) c.stable_tail-stable_tail.ensures in
@@ -76,13 +76,13 @@ returns-clause-left g c =
 pub returns-clause-received : goal.returns-clause-received
 returns-clause-received g c = λ k d within r own.
     let inv = c.self.invariant in
-    let v : View = flush_view c.self.inside.flusher in
-    let w : View = flush_view c.take-taken.new.flusher in
-    let seat : View = commit_view (get_or c.args.seats.items k d) in
+    let v : StageView = flush_view c.self.inside.flusher in
+    let w : StageView = flush_view c.take-taken.new.flusher in
+    let seat : StageView = commit_view (get_or c.args.seats.items k d) in
     let held = at_rest g.D.Area c.self.inside.log c.in-Idle.log _ v.taken _ inv.holds c.in-Idle.is in
-    let past : w.past ≡ v.past = ap (λ (y : View). y.past) c.take-taken.ensures.takes.1 in
-    let published : w.published ≡ v.published = ap (λ (y : View). y.published) c.take-taken.ensures.takes.1 in
-    let agree : Agree w seat = subst (λ (z : View). Agree z seat) c.meet_all.ensures.same (c.meet_all.ensures.agree k d within) in
+    let past : w.past ≡ v.past = ap (λ (y : StageView). y.past) c.take-taken.ensures.takes.1 in
+    let published : w.published ≡ v.published = ap (λ (y : StageView). y.published) c.take-taken.ensures.takes.1 in
+    let agree : Agree w seat = subst (λ (z : StageView). Agree z seat) c.meet_all.ensures.same (c.meet_all.ensures.agree k d within) in
     let low : w.published ≤ c.self.inside.round * 65536 + length c.self.inside.stable.items = subst (λ (n : ℕ). n ≤ c.self.inside.round * 65536 + length c.self.inside.stable.items) (sym published) inv.published in
     received w seat c.self.inside.round c.self.inside.stable.items c.take-taken.new.group.words c.self.inside.known agree
     (inv.at_round ∙ ap (λ (l : List (List ℕ)). length l) (sym past))
@@ -96,11 +96,11 @@ returns-then-tail-stable_tail-clause-refused g c =
     let inv = c.self.invariant in
     let s = c.self.inside in
     let log : LogView g.row.D.Denot = log_view g.D.Area s in
-    let v : View = flush_view s.flusher in
-    let w : View = flush_view c.take-taken.new.flusher in
+    let v : StageView = flush_view s.flusher in
+    let w : StageView = flush_view c.take-taken.new.flusher in
     let held = at_rest g.D.Area s.log c.in-Idle.log _ v.taken _ inv.holds c.in-Idle.is in
     let words : List ℕ = c.take-taken.new.group.words in
-    let past : w.past ≡ v.past = ap (λ (y : View). y.past) c.take-taken.ensures.takes.1 in
+    let past : w.past ≡ v.past = ap (λ (y : StageView). y.past) c.take-taken.ensures.takes.1 in
     let end : end_of w ≡ s.round * 65536 + length s.stable.items + length words = end_behind v w s.round s.stable.items words past inv.at_round held.0 c.take-taken.ensures.words in
     let tail : c.stable_tail-stable_tail.result ≡ s.round * 65536 + length s.stable.items =
     subst (λ (x : LogView g.row.D.Denot). c.stable_tail-stable_tail.result ≡ x.round * 65536 + length x.stable) (sym c.self.view_is) c.stable_tail-stable_tail.ensures in
@@ -122,11 +122,11 @@ returns-then-end-geometry-clause-refused g c =
     let inv = c.self.invariant in
     let s = c.self.inside in
     let log : LogView g.row.D.Denot = log_view g.D.Area s in
-    let v : View = flush_view s.flusher in
-    let w : View = flush_view c.take-taken.new.flusher in
+    let v : StageView = flush_view s.flusher in
+    let w : StageView = flush_view c.take-taken.new.flusher in
     let held = at_rest g.D.Area s.log c.in-Idle.log _ v.taken _ inv.holds c.in-Idle.is in
     let words : List ℕ = c.take-taken.new.group.words in
-    let past : w.past ≡ v.past = ap (λ (y : View). y.past) c.take-taken.ensures.takes.1 in
+    let past : w.past ≡ v.past = ap (λ (y : StageView). y.past) c.take-taken.ensures.takes.1 in
     let end : end_of w ≡ s.round * 65536 + length s.stable.items + length words = end_behind v w s.round s.stable.items words past inv.at_round held.0 c.take-taken.ensures.words in
     let tail : c.stable_tail-stable_tail.result ≡ s.round * 65536 + length s.stable.items =
     subst (λ (x : LogView g.row.D.Denot). c.stable_tail-stable_tail.result ≡ x.round * 65536 + length x.stable) (sym c.self.view_is) c.stable_tail-stable_tail.ensures in
@@ -153,11 +153,11 @@ returns-in_err-staged-clause-refused g c =
     let inv = c.self.invariant in
     let s = c.self.inside in
     let log : LogView g.row.D.Denot = log_view g.D.Area s in
-    let v : View = flush_view s.flusher in
-    let w : View = flush_view c.take-taken.new.flusher in
+    let v : StageView = flush_view s.flusher in
+    let w : StageView = flush_view c.take-taken.new.flusher in
     let held = at_rest g.D.Area s.log c.in-Idle.log _ v.taken _ inv.holds c.in-Idle.is in
     let words : List ℕ = c.take-taken.new.group.words in
-    let past : w.past ≡ v.past = ap (λ (y : View). y.past) c.take-taken.ensures.takes.1 in
+    let past : w.past ≡ v.past = ap (λ (y : StageView). y.past) c.take-taken.ensures.takes.1 in
     let end : end_of w ≡ s.round * 65536 + length s.stable.items + length words = end_behind v w s.round s.stable.items words past inv.at_round held.0 c.take-taken.ensures.words in
     let tail : c.stable_tail-stable_tail.result ≡ s.round * 65536 + length s.stable.items =
     subst (λ (x : LogView g.row.D.Denot). c.stable_tail-stable_tail.result ≡ x.round * 65536 + length x.stable) (sym c.self.view_is) c.stable_tail-stable_tail.ensures in

@@ -1,6 +1,6 @@
 use Rattle.std.proofs.Common.{rules, ◌≡◌, ℕ, ◌+◌, ◌≤◌, List, Some, None, length, sym, ap, subst, ◌∙◌, ◌∷◌, [], ◌++◌, arith}
 use Rattle.std.specs.Prelude.{Option}
-use Rattle.lc_page.specs.declared.entry.Entry.{Entry}
+use Rattle.lc_page.specs.declared.page_entry.PageEntry.{PageEntry}
 use Rattle.lc_range.specs.RangeSet.{EndWithin}
 use Rattle.lc_range.specs.declared.range.Range.{Range}
 use Rattle.lc_applied.specs.AppliedParts.{part_of_runs, runs_of}
@@ -25,7 +25,7 @@ invariant_of-self g c = let inv = c.self.invariant in let old = c.self.inside in
     let next : IsNext part old.token.token = search rules in
     let before = token_before part old.token.token next in
     let touches : ForSome c.count_record.new.self.token (λ x. c.touch_runs.new.place ≡ record { segment = c.count_record.new.self.segment; token = Some (record x { pages = touched_pages part.ranges x.seq x.pages }) }) =
-    λ x there. c.touch_runs.ensures x there ∙ ap (λ (es : List Entry). record { segment = c.count_record.new.self.segment; token = Some (record x { pages = es }) }) (touched_same image runs within x.seq x.pages) in
+    λ x there. c.touch_runs.ensures x there ∙ ap (λ (es : List PageEntry). record { segment = c.count_record.new.self.segment; token = Some (record x { pages = es }) }) (touched_same image runs within x.seq x.pages) in
     let is : c.touch_runs.new.place ≡ record { segment = old.token.segment; token = next_token part old.token.token } =
     token_counted part old.token c.count_record.new.self c.touch_runs.new.place before.0 before.1 c.count_record.ensures touches in
     let token : c.touch_runs.new.place.token ≡ next_token part old.token.token = ap (λ (x : Standing). x.token) is in
@@ -68,7 +68,7 @@ returns g c = let old = c.self.inside in let runs : List Range = runs_of old.seg
     let next : IsNext part old.token.token = search rules in
     let before = token_before part old.token.token next in
     let touches : ForSome c.count_record.new.self.token (λ x. c.touch_runs.new.place ≡ record { segment = c.count_record.new.self.segment; token = Some (record x { pages = touched_pages part.ranges x.seq x.pages }) }) =
-    λ x there. c.touch_runs.ensures x there ∙ ap (λ (es : List Entry). record { segment = c.count_record.new.self.segment; token = Some (record x { pages = es }) }) (touched_same image runs within x.seq x.pages) in
+    λ x there. c.touch_runs.ensures x there ∙ ap (λ (es : List PageEntry). record { segment = c.count_record.new.self.segment; token = Some (record x { pages = es }) }) (touched_same image runs within x.seq x.pages) in
     let is : c.touch_runs.new.place ≡ record { segment = old.token.segment; token = next_token part old.token.token } =
     token_counted part old.token c.count_record.new.self c.touch_runs.new.place before.0 before.1 c.count_record.ensures touches in
     let items : c.push_runs.new.self.parts ≡ old.applied.parts ++ part ∷ [] = search rules in

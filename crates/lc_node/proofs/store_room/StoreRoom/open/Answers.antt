@@ -5,9 +5,9 @@ use Rattle.std.proofs.lemmas.Nat.{mod_below}
 use Rattle.std.proofs.lemmas.List.Elements.{All-push}
 use Rattle.lc_record.specs.declared.geometry.Geometry.{Geometry}
 use Rattle.lc_stage.specs.Seats.{commit_view}
-use Rattle.lc_node.specs.Opened.{IsOpened}
+use Rattle.lc_node.specs.OpenedNode.{IsOpened}
 use Rattle.lc_node.specs.Shares.{has_token}
-use Rattle.lc_node.specs.declared.opening.Opened.{Opened}
+use Rattle.lc_node.specs.declared.opening.OpenedNode.{OpenedNode}
 use Rattle.lc_node.proofs.EachPlace.{each_more, first_is, left_is}
 use Rattle.lc_node.proofs.FreshFits.{fits_log, fits_room, of_segment}
 use Rattle.lc_node.proofs.Taking.{all_back, not_emptied, stood}
@@ -126,8 +126,8 @@ loop-number-preserved g c =
           let count : share.nodes ≡ vec_len c.args.self.nodes = omega (arith, c.new-share.ensures.nodes, c.len-count.ensures) in
           let same = ap (λ (n : ℕ). (place + 1) % n) count in
           omega (arith, inv.shared place area (before place area (left place area got)), same, other, c.new-share.ensures.number));
-      each = subst (All (IsOpened r)) (sym {A = List (Opened g.row.D.Denot)} c.push_reserved.ensures.items) (All-push (IsOpened r) c.loop-number.opened.items c.open.result inv.each made);
-      numbered = each_more (λ place (m : Opened g.row.D.Denot). m.node.number ≡ place) c.push_reserved.new.self.items c.loop-number.opened.items c.open.result c.loop-number.number
+      each = subst (All (IsOpened r)) (sym {A = List (OpenedNode g.row.D.Denot)} c.push_reserved.ensures.items) (All-push (IsOpened r) c.loop-number.opened.items c.open.result inv.each made);
+      numbered = each_more (λ place (m : OpenedNode g.row.D.Denot). m.node.number ≡ place) c.push_reserved.new.self.items c.loop-number.opened.items c.open.result c.loop-number.number
           c.push_reserved.ensures.items (omega (arith, inv.up, c.loop-number.opened.ok.0)) inv.numbered (c.open.ensures.number ∙ c.new-share.ensures.number);
     }
 

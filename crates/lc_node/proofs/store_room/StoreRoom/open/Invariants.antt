@@ -1,6 +1,6 @@
 use Rattle.std.proofs.Common.{◌≡◌, ◌≤◌, ℕ, ◌+◌, ◌%◌, Some, All, vec_len, vec_capacity}
 use Rattle.std.specs.Prelude.{slice_get}
-use Rattle.lc_node.specs.Opened.{IsOpened, StandByNumber}
+use Rattle.lc_node.specs.OpenedNode.{IsOpened, StandByNumber}
 use Rattle.lc_node.specs.Rooms.{AreRoomsFor}
 use Rattle.lc_node.specs.Shares.{ArePages}
 use Rattle.lc_node.proofs.store_room.StoreRoom.open.Given as goal

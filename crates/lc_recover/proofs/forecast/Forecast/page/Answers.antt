@@ -4,9 +4,9 @@ use Rattle.std.proofs.lemmas.Option.{slice_get-get_or}
 use Rattle.lc_model.specs.Stored.{page_bytes}
 use Rattle.lc_model.specs.Merge.{MergesTo}
 use Rattle.lc_recover.specs.Forecast.{Foretold}
-use Rattle.lc_recover.specs.Kept.{AreAscending}
+use Rattle.lc_recover.specs.StoreContents.{AreAscending}
 use Rattle.lc_recover.specs.Page.{AreAt, AreOfPage}
-use Rattle.lc_recover.specs.declared.change.Change.{Change}
+use Rattle.lc_recover.specs.declared.redo_range.RedoRange.{RedoRange}
 use Rattle.lc_recover.proofs.Foretelling.{bytes-are, one-content}
 use Rattle.lc_recover.proofs.forecast.Forecast.page.Goals as goal
 
@@ -22,7 +22,7 @@ module _ (c : goal.After-bytes-4-1) where
       slice_get-get_or c.self.inside.writes.kept.segments.items (c.args.segment - 1) _ (omega (arith, c.requires.first, last, c.self.invariant.sound.pages.count)) ∙ ap Some (sym c.index-pages.ensures)
 
   of : AreOfPage c.self.inside.writes.merged.changes.items c.args.segment c.args.page c.changes_of-changes.result.now
-  of = subst (λ (l : List Change). AreAscending l → AreOfPage l c.args.segment c.args.page c.changes_of-changes.result.now) c.deref.ensures.value c.changes_of-changes.ensures
+  of = subst (λ (l : List RedoRange). AreAscending l → AreOfPage l c.args.segment c.args.page c.changes_of-changes.result.now) c.deref.ensures.value c.changes_of-changes.ensures
       c.self.invariant.sound.merging.index.ascending
 
   is_foretold : c.put_changes.new.bytes ≡ page_bytes c.args.segment c.args.page c.self.invariant.sound.content

@@ -3,13 +3,13 @@ use Rattle.std.proofs.lemmas.Bool.{true≢false}
 use Rattle.lc_recover.proofs.Going.{over-done, not_over-done, not_done}
 use Rattle.lc_recover.specs.Recovery.{Recovering, IsDone}
 use Rattle.lc_recover.specs.Steps.{IsOver}
-use Rattle.lc_recover.specs.declared.stage.Stage.{Stage}
+use Rattle.lc_recover.specs.declared.recovery_phase.RecoveryPhase.{RecoveryPhase}
 use Rattle.lc_recover.proofs.recovery.Recovery.is_done.Goals as goal
 
 pub returns-in-Done : goal.returns-in-Done
 returns-in-Done g c = (
   λ yes. subst (λ (r : Recovering g.row.D.Denot). IsDone r) c.self.view_is
-      (over-done g.D.Area c.self.inside.geometry c.self.inside.areas.items c.self.inside.stage (subst (λ (s : Stage). IsOver s) (sym c.in-Done.is) tt)),
+      (over-done g.D.Area c.self.inside.geometry c.self.inside.areas.items c.self.inside.stage (subst (λ (s : RecoveryPhase). IsOver s) (sym c.in-Done.is) tt)),
   λ done. refl,
 )
 

@@ -1,8 +1,8 @@
 use Rattle.std.proofs.Common.{◌≡◌, ◌+◌, sym, subst, true≢false, eqb-true, eq-eqb}
 use Rattle.lc_recover.proofs.Going.{closing-last, last-closing, not_resetting-not_last}
 use Rattle.lc_recover.specs.Recovery.{Recovering, recovering, IsLast}
-use Rattle.lc_recover.specs.declared.stage.Stage.{Stage}
-use Rattle.lc_recover.specs.declared.stage.Stage.TheVariants.{Resetting}
+use Rattle.lc_recover.specs.declared.recovery_phase.RecoveryPhase.{RecoveryPhase}
+use Rattle.lc_recover.specs.declared.recovery_phase.RecoveryPhase.TheVariants.{Resetting}
 use Rattle.lc_recover.proofs.recovery.Recovery.is_last.Goals as goal
 
 pub returns-then-resets : goal.returns-then-resets
@@ -11,11 +11,11 @@ returns-then-resets g c =
     let geometry = c.self.inside.geometry in
     let areas = c.self.inside.areas.items in (
       λ last. subst (λ (r : Recovering g.row.D.Denot). IsLast r) c.self.view_is
-          (subst (λ (s : Stage). IsLast (recovering geometry areas s)) (sym stage_is)
+          (subst (λ (s : RecoveryPhase). IsLast (recovering geometry areas s)) (sym stage_is)
           (closing-last g.D.Area geometry areas c.in-Resetting.resets c.if-resets.true (eqb-true (c.in-Resetting.resets.next + 1) geometry.nodes last))),
       λ last. eq-eqb (c.in-Resetting.resets.next + 1) geometry.nodes
           (last-closing g.D.Area geometry areas c.in-Resetting.resets
-          (subst (λ (s : Stage). IsLast (recovering geometry areas s)) stage_is
+          (subst (λ (s : RecoveryPhase). IsLast (recovering geometry areas s)) stage_is
           (subst (λ (r : Recovering g.row.D.Denot). IsLast r) (sym c.self.view_is) last))).1,
     )
 

@@ -2,7 +2,7 @@ use Rattle.std.proofs.Common.{arith, subst, List}
 use Rattle.lc_recover.proofs.Going.{begun-going}
 use Rattle.lc_recover.specs.Reads.{AreOfBytes}
 use Rattle.lc_recover.specs.Recovery.{IsGoing}
-use Rattle.lc_recover.specs.declared.stage.Stage.TheVariants.{Syncing}
+use Rattle.lc_recover.specs.declared.recovery_phase.RecoveryPhase.TheVariants.{Syncing}
 use Rattle.lc_recover.proofs.recovery.Recovery.new.Goals as goal
 
 pub overflow_cast-area : goal.overflow_cast-area

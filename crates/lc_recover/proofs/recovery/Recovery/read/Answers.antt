@@ -4,7 +4,7 @@ use Rattle.std.proofs.lemmas.Option.{slice_get-get_or}
 use Rattle.lc_log.proofs.OneCalls.{read_call}
 use Rattle.lc_recover.proofs.Going.{read-going}
 use Rattle.lc_recover.proofs.Showing.{have-lengths}
-use Rattle.lc_recover.specs.Stage.{AreasFit}
+use Rattle.lc_recover.specs.RecoveryPhase.{AreasFit}
 use Rattle.lc_recover.specs.Recovery.{IsReadFrom, Recovering}
 use Rattle.lc_recover.proofs.recovery.Recovery.read.Given.{Over}
 use Rattle.lc_recover.proofs.recovery.Recovery.read.Goals as goal

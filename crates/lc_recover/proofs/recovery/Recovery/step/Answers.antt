@@ -12,7 +12,7 @@ use Rattle.lc_recover.proofs.Showing.{have-lengths}
 use Rattle.lc_recover.specs.Recovery.{Recovering, recovering, HasPageToWrite, IsDone, IsLast, IsMergeNext, IsMerged, IsGoing, MergesRead, RefusesRead, Renews}
 use Rattle.lc_recover.specs.declared.fault.RecoverFault.{RecoverFault}
 use Rattle.lc_recover.specs.declared.fault.RecoverFault.TheVariants.{NoMemory}
-use Rattle.lc_recover.specs.declared.stage.Stage.{Stage}
+use Rattle.lc_recover.specs.declared.recovery_phase.RecoveryPhase.{RecoveryPhase}
 use Rattle.lc_recover.proofs.recovery.Recovery.step.Given.{Over}
 use Rattle.lc_recover.proofs.recovery.Recovery.step.Goals as goal
 
@@ -168,7 +168,7 @@ returns-in-Ok-clause-last g c done =
     subst (λ (r : Recovering g.row.D.Denot). IsLast r) (start g c)
     (done-last g.D.Area c.self.inside.geometry c.as_mut_slice.result.now c.replace-stage.result c.in-Ok.stage c.advance.new.areas
     (subst (λ (l : List g.row.D.Denot). IsGoing g.D.Area c.self.inside.geometry c.replace-stage.result l) (ap (λ (r : Recovering g.row.D.Denot). r.areas) (c.self.view_is ∙ sym (start g c)))
-    (subst (λ (stage : Stage). IsGoing g.D.Area c.self.inside.geometry stage c.self.inside.areas.items) (sym c.replace-stage.ensures.value) c.self.invariant))
+    (subst (λ (stage : RecoveryPhase). IsGoing g.D.Area c.self.inside.geometry stage c.self.inside.areas.items) (sym c.replace-stage.ensures.value) c.self.invariant))
     c.in-Ok.ensures.pages c.in-Ok.ensures.steps done)
 
 -- So many steps are done at most

@@ -1,0 +1,12 @@
+//! What the table answers to a command.
+
+/// What the table answers to a command that it does not refuse. This project's own.
+#[derive(Drop)]
+pub enum NameAnswer {
+    /// The name is created, renamed or removed.
+    Done,
+    /// The attributes of the name.
+    Attributes(Vec<u8>),
+    /// Each name once, in the order of the table.
+    Names(Vec<Vec<u8>>),
+}

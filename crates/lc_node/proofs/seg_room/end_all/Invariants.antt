@@ -1,8 +1,0 @@
-use Rattle.std.proofs.Common.{length}
-use Rattle.lc_node.proofs.seg_room.end_all.Given as goal
-
-abbrev pub invariant-loop-room : goal.invariant-loop-room
-invariant-loop-room g l = Unit {0}
-
-abbrev pub decreases-loop-room : goal.decreases-loop-room
-decreases-loop-room g l = length l.rooms.items

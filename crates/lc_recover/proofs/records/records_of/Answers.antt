@@ -1,7 +1,0 @@
-use Rattle.std.proofs.Common.{refl}
-use Rattle.lc_recover.specs.Reading.{left_of}
-use Rattle.lc_recover.proofs.records.records_of.Goals as goal
-
-pub returns : goal.returns
-unfolding left_of
-returns c = refl
