@@ -23,12 +23,12 @@ pub fn keep_node<D: Area + Drop, R: AllocGlobal + Clock + Wait>(
     rt: &R,
     node: &Node<D>,
     upkeep: &Upkeep,
-    ending: &ShutdownSignal,
+    shutdown: &ShutdownSignal,
 ) -> Result<(), NodeFault>
     ensures kept { OnOk result (WasKept D.Area upkeep.now node.now) }
     ensures refused { IfErr result (IsUnkept D.Area node.now) }
 {
-    keep(rt, node, upkeep, ending)
+    keep(rt, node, upkeep, shutdown)
 }
 
 /// Keeps a node of a cluster in order, by its number, as `keep_node` does. Beside that it sends the peers what is published, goes on
@@ -42,13 +42,13 @@ pub fn keep_member<D: Area + Drop, R: AllocGlobal + Clock + Wait>(
     cluster: &Cluster<D>,
     number: u16,
     upkeep: &Upkeep,
-    ending: &ShutdownSignal,
+    shutdown: &ShutdownSignal,
 ) -> Result<(), NodeFault>
     requires { HasNode cluster.now number }
     ensures kept { OnOk result (WasKeptAt D.Area upkeep.now cluster.now number) }
     ensures refused { IfErr result (IsUnkeptAt D.Area cluster.now number) }
 {
-    keep(rt, &ClusterNode { cluster, number }, upkeep, ending)
+    keep(rt, &ClusterNode { cluster, number }, upkeep, shutdown)
 }
 
 // A round after each wait, until it is told to end.
@@ -56,13 +56,13 @@ fn keep<K: Round, R: AllocGlobal + Clock + Wait>(
     rt: &R,
     kept: &K,
     upkeep: &Upkeep,
-    ending: &ShutdownSignal,
+    shutdown: &ShutdownSignal,
 ) -> Result<(), NodeFault>
     ensures kept { OnOk result (K.kept upkeep.now kept.now) }
     ensures refused { IfErr result (K.unkept kept.now) }
 {
     for _ in rt.forever() {
-        let is_told = ending.wait(rt, upkeep.flush_every);
+        let is_told = shutdown.wait(rt, upkeep.flush_every);
         kept.round(rt, upkeep)?;
         if is_told {
             return Ok(());

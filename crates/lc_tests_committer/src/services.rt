@@ -41,7 +41,7 @@ fn sees_it_stable<R: AllocGlobal + Clock + Wait>(
     rt: &R,
     node: &Node<MemArea>,
     committer: Committer<MemArea>,
-    ending: &ShutdownSignal,
+    shutdown: &ShutdownSignal,
 ) -> bool {
     let mut committer = committer;
     let mut work = HELLO;
@@ -54,7 +54,7 @@ fn sees_it_stable<R: AllocGlobal + Clock + Wait>(
         }
         wait_a_little(rt);
     }
-    ending.tell(rt);
+    shutdown.tell(rt);
     matches!(done, Ok(Commit::Lazy)) && is_stable
 }
 
@@ -62,11 +62,11 @@ fn sees_it_stable<R: AllocGlobal + Clock + Wait>(
 fn a_service_makes_lazy_commits_stable(rt: HostRuntime) -> Result<(), Fail> {
     let (node, seat) = opened(rt.alloc(), MANY_WORDS)?;
     let committer = Committer::new(&node, seat);
-    let ending = ShutdownSignal::new();
+    let shutdown = ShutdownSignal::new();
     let (kept, is_stable) = join(
         &rt,
-        || keep_node(&rt, &node, &often(), &ending),
-        || sees_it_stable(&rt, &node, committer, &ending),
+        || keep_node(&rt, &node, &often(), &shutdown),
+        || sees_it_stable(&rt, &node, committer, &shutdown),
     );
     assert!(rt; kept == Ok(()), "the service: {kept:?}");
     assert!(rt; is_stable, "the record is stable");
@@ -78,7 +78,7 @@ fn sees_it_emptied<R: AllocGlobal + Clock + Wait>(
     rt: &R,
     node: &Node<MemArea>,
     committer: Committer<MemArea>,
-    ending: &ShutdownSignal,
+    shutdown: &ShutdownSignal,
 ) -> bool {
     let mut committer = committer;
     for _ in 0..LEAST_WORDS as usize / RECORD_WORDS / 2 {
@@ -94,7 +94,7 @@ fn sees_it_emptied<R: AllocGlobal + Clock + Wait>(
         }
         wait_a_little(rt);
     }
-    ending.tell(rt);
+    shutdown.tell(rt);
     matches!(settled, Ok(Some(_))) && is_emptied
 }
 
@@ -102,11 +102,11 @@ fn sees_it_emptied<R: AllocGlobal + Clock + Wait>(
 fn a_service_empties_a_log_that_is_half_full(rt: HostRuntime) -> Result<(), Fail> {
     let (node, seat) = opened(rt.alloc(), LEAST_WORDS)?;
     let committer = Committer::new(&node, seat);
-    let ending = ShutdownSignal::new();
+    let shutdown = ShutdownSignal::new();
     let (kept, is_emptied) = join(
         &rt,
-        || keep_node(&rt, &node, &often(), &ending),
-        || sees_it_emptied(&rt, &node, committer, &ending),
+        || keep_node(&rt, &node, &often(), &shutdown),
+        || sees_it_emptied(&rt, &node, committer, &shutdown),
     );
     assert!(rt; kept == Ok(()), "the service: {kept:?}");
     assert!(rt; is_emptied, "the log is empty");
@@ -118,15 +118,15 @@ fn a_service_empties_a_log_that_is_half_full(rt: HostRuntime) -> Result<(), Fail
 fn a_service_that_is_told_to_end_flushes_once_more(rt: HostRuntime) -> Result<(), Fail> {
     let (node, seat) = opened(rt.alloc(), MANY_WORDS)?;
     let committer = Committer::new(&node, seat);
-    let ending = ShutdownSignal::new();
+    let shutdown = ShutdownSignal::new();
     let (kept, done) = join(
         &rt,
-        || keep_node(&rt, &node, &rarely(), &ending),
+        || keep_node(&rt, &node, &rarely(), &shutdown),
         || {
             let mut committer = committer;
             let mut work = HELLO;
             let done = committer.commit(&rt, &[1], &mut work, Mode::Lazy);
-            ending.tell(&rt);
+            shutdown.tell(&rt);
             done
         },
     );
@@ -141,7 +141,7 @@ fn a_service_that_is_told_to_end_flushes_once_more(rt: HostRuntime) -> Result<()
 fn sees_it_come<R: AllocGlobal + Clock + Wait>(
     rt: &R,
     pair: &Pair,
-    ending: &ShutdownSignal,
+    shutdown: &ShutdownSignal,
 ) -> bool {
     let mut has_come = false;
     for _ in 0..LOOKS {
@@ -152,14 +152,14 @@ fn sees_it_come<R: AllocGlobal + Clock + Wait>(
         }
         wait_a_little(rt);
     }
-    ending.tell(rt);
+    shutdown.tell(rt);
     has_come
 }
 
 #[test]
 fn a_service_sends_the_records_of_its_node(rt: HostRuntime) -> Result<(), Fail> {
     let (pair, first, _second) = opened_pair(rt.alloc(), MANY_WORDS)?;
-    let ending = ShutdownSignal::new();
+    let shutdown = ShutdownSignal::new();
     let mut work = Put {
         segment: 2,
         ..HELLO
@@ -169,8 +169,8 @@ fn a_service_sends_the_records_of_its_node(rt: HostRuntime) -> Result<(), Fail> 
     assert!(rt; matches!(done, Ok(Commit::Lazy)), "the commit: {done:?}");
     let (kept, has_come) = join(
         &rt,
-        || keep_member(&rt, &pair.cluster, 0, &often(), &ending),
-        || sees_it_come(&rt, &pair, &ending),
+        || keep_member(&rt, &pair.cluster, 0, &often(), &shutdown),
+        || sees_it_come(&rt, &pair, &shutdown),
     );
     assert!(rt; kept == Ok(()), "the service: {kept:?}");
     assert!(rt; has_come, "the record came");
