@@ -13,6 +13,7 @@ use lc_record::Geometry;
 use std::fs::OpenFile;
 use std::io::{self, Error, ErrorKind};
 use std::os::unix::fs::FileExt;
+use std::path::AsPath;
 use std::rt::Files;
 
 // How many bytes are copied at once.
@@ -20,17 +21,17 @@ const PIECE: usize = 4096;
 
 /// A folder in which a store is made that begins as a copy of another one: each file has the bytes of the file of its name there, where
 /// there is one, and then zeros. As of a `Directory`, contracts never see it as honest.
-pub struct CopyDirectory<'a, R: Files>
+pub struct CopyDirectory<'a, R: Files, P: AsPath>
 where
     R::File: OwnedFile,
 {
-    directory: Directory<'a, R>,
+    directory: Directory<'a, R, P>,
     // What is copied: the areas of a store of this size.
-    areas: Vec<StoreArea<'a, R>>,
+    areas: Vec<StoreArea<&'a StoreFolder<R, P>>>,
     geometry: Geometry,
 }
 
-impl<R: Files> Drop for CopyDirectory<'_, R>
+impl<R: Files, P: AsPath> Drop for CopyDirectory<'_, R, P>
 where
     R::File: OwnedFile,
 {
@@ -43,16 +44,16 @@ where
     }
 }
 
-impl<'a, R: Files> CopyDirectory<'a, R>
+impl<'a, R: Files, P: AsPath> CopyDirectory<'a, R, P>
 where
     R::File: OwnedFile,
 {
     /// This folder, which is not held yet, for a copy of these areas of a store of this size.
     pub fn new(
-        folder: &'a StoreFolder<'a, R>,
-        areas: Vec<StoreArea<'a, R>>,
+        folder: &'a StoreFolder<R, P>,
+        areas: Vec<StoreArea<&'a StoreFolder<R, P>>>,
         geometry: Geometry,
-    ) -> CopyDirectory<'a, R> {
+    ) -> CopyDirectory<'a, R, P> {
         CopyDirectory {
             directory: Directory::new(folder),
             areas,
@@ -61,7 +62,7 @@ where
     }
 
     /// The folder itself.
-    pub fn directory(&self) -> &Directory<'a, R> {
+    pub fn directory(&self) -> &Directory<'a, R, P> {
         &self.directory
     }
 
@@ -108,7 +109,7 @@ fn place_of(geometry: &Geometry, name: FileName) -> Option<usize> {
     }
 }
 
-impl<R: Files> Folder for CopyDirectory<'_, R>
+impl<R: Files, P: AsPath> Folder for CopyDirectory<'_, R, P>
 where
     R::File: OwnedFile,
 {

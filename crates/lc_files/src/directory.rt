@@ -17,18 +17,19 @@ use std::alloc::AllocError;
 use std::fs::OpenFile;
 use std::io::{self, ErrorKind};
 use std::os::unix::fs::FileExt;
+use std::path::AsPath;
 use std::rt::Files;
 
 /// A folder of the system. Other processes may change what is in it, so contracts never see it as honest.
-pub struct Directory<'a, R: Files>
+pub struct Directory<'a, R: Files, P: AsPath>
 where
     R::File: OwnedFile,
 {
-    folder: &'a StoreFolder<'a, R>,
+    folder: &'a StoreFolder<R, P>,
     guard: Option<R::File>,
 }
 
-impl<R: Files> Drop for Directory<'_, R>
+impl<R: Files, P: AsPath> Drop for Directory<'_, R, P>
 where
     R::File: OwnedFile,
 {
@@ -40,12 +41,12 @@ where
     }
 }
 
-impl<'a, R: Files> Directory<'a, R>
+impl<'a, R: Files, P: AsPath> Directory<'a, R, P>
 where
     R::File: OwnedFile,
 {
     /// This folder, which is not held yet.
-    pub fn new(folder: &'a StoreFolder<'a, R>) -> Directory<'a, R> {
+    pub fn new(folder: &'a StoreFolder<R, P>) -> Directory<'a, R, P> {
         Directory {
             folder,
             guard: None,
@@ -69,7 +70,7 @@ where
         match file {
             NewFile::Size(geometry) => self.make_size(&path, geometry),
             NewFile::Area(area) => {
-                FileArea::try_make(self.folder.rt, &path, area.len)?;
+                FileArea::try_make(&self.folder.rt, &path, area.len)?;
                 Ok(())
             }
         }
@@ -110,7 +111,7 @@ where
 
     fn make_at(&self, path: &str) -> io::Result<R::File> {
         exclusive()
-            .open(self.folder.rt, path)?
+            .open(&self.folder.rt, path)?
             .beside_standard_streams()
     }
 
@@ -127,7 +128,7 @@ where
     }
 }
 
-impl<R: Files> Folder for Directory<'_, R>
+impl<R: Files, P: AsPath> Folder for Directory<'_, R, P>
 where
     R::File: OwnedFile,
 {

@@ -4,13 +4,14 @@ use crate::file_fault::FaultPlace;
 use crate::file_lens::{FileLens, LOGS, SEGMENTS};
 use crate::file_name::FileName;
 use crate::folder::FolderFault;
+use crate::folder_ref::FolderRef;
 use crate::misfit::Misfit;
 use crate::renewing::renew_store;
 use crate::shared_file::SharedFile;
 use crate::size_source::SizeSource;
 use crate::sizing::{SizeFault, Unopened, agrees, size_found};
 use crate::store_file::StoreFile;
-use crate::store_folder::{StoreFolder, no_size};
+use crate::store_folder::{SharedFolder, StoreFolder, no_size};
 use crate::store_name::StoreName;
 use crate::watch::{FileWatch, StoreArea};
 use lc_disk::{Area, FileArea, HeldFile};
@@ -18,6 +19,7 @@ use lc_record::{Geometry, MAX_NODE, MAX_SEGMENT};
 use std::alloc::AllocError;
 use std::fs::{OpenFile, OpenOptions};
 use std::io::{self, Error, ErrorKind};
+use std::path::AsPath;
 use std::rt::Files;
 
 // What a file is opened for.
@@ -30,15 +32,15 @@ enum Access {
 }
 
 /// A store in a folder that is open: its areas, and what keeps other processes from it.
-pub struct OpenStore<'a, R: Files>
+pub struct OpenStore<F: FolderRef>
 where
-    R::File: HeldFile,
+    <F::Runtime as Files>::File: HeldFile,
 {
     /// The areas of its files, in the order of the store; where the folder has more files of a store, the first of those is one
     /// area more. No other process has a file of these open until its area is dropped.
-    pub areas: Vec<StoreArea<'a, R>>,
+    pub areas: Vec<StoreArea<F>>,
     /// The folder, locked until this is dropped.
-    pub guard: R::File,
+    pub guard: <F::Runtime as Files>::File,
 }
 
 /// A store in a folder that is looked at: its size, and what keeps those from it that would change it.
@@ -52,7 +54,7 @@ where
     pub guard: R::File,
 }
 
-impl<'a, R: Files> StoreFolder<'a, R>
+impl<R: Files, P: AsPath> StoreFolder<R, P>
 where
     R::File: SharedFile,
 {
@@ -82,9 +84,12 @@ where
     /// # Errors
     ///
     /// As of `open`.
-    pub fn areas_to_read(&self, geometry: &Geometry) -> Result<Vec<StoreArea<'_, R>>, Unopened> {
+    pub fn areas_to_read(
+        &self,
+        geometry: &Geometry,
+    ) -> Result<Vec<StoreArea<&StoreFolder<R, P>>>, Unopened> {
         let beyond = self.first_beyond(geometry)?;
-        let areas = self.open_areas(geometry, beyond, Access::Read)?;
+        let areas = open_areas(&self, geometry, beyond, Access::Read)?;
         if beyond.is_some() || !have_lengths(geometry, &areas) {
             self.note_misfit(geometry, beyond);
             return Ok(areas);
@@ -117,14 +122,8 @@ where
     ///
     /// `OtherSize` where all areas are those of the geometry, and the file of the size says another. `Failed` where another process has
     /// the store open, or the system refused something; `fault` says what, and why.
-    pub fn open(&self, geometry: &Geometry) -> Result<OpenStore<'_, R>, Unopened> {
-        let guard = self.noted(FaultPlace::Folder, self.lock())?;
-        let areas = self.renewed_areas(geometry)?;
-        if let Some(file) = self.noted(FaultPlace::Name(StoreName::Size), self.size_file())? {
-            self.make_stable(FaultPlace::Name(StoreName::Size), &file)?;
-        }
-        self.make_stable(FaultPlace::Folder, &guard)?;
-        Ok(OpenStore { areas, guard })
+    pub fn open(&self, geometry: &Geometry) -> Result<OpenStore<&StoreFolder<R, P>>, Unopened> {
+        open_at(&self, geometry)
     }
 
     // Syncs the folder, or the file of the size. A sync that fails leaves the mark: the system does not tell of it again.
@@ -139,24 +138,6 @@ where
         self.noted(place, synced)
     }
 
-    // The areas of the store's files. Where a fault has left its mark the files are copied before.
-    fn renewed_areas(&self, geometry: &Geometry) -> Result<Vec<StoreArea<'_, R>>, Unopened> {
-        let beyond = self.first_beyond(geometry)?;
-        let is_marked = self.stands(StoreName::Mark)?;
-        let areas = self.open_areas(geometry, beyond, Access::Change)?;
-        if beyond.is_some() || !have_lengths(geometry, &areas) {
-            self.note_misfit(geometry, beyond);
-            return Ok(areas);
-        }
-        agrees(self.alloc, self, geometry)?;
-        if !is_marked {
-            return Ok(areas);
-        }
-        drop(areas);
-        renew_store(&mut Directory::new(self), geometry)?;
-        Ok(self.open_areas(geometry, None, Access::Change)?)
-    }
-
     // Notes why the areas are not those of a store of this size: it is another than the store's own file says, or a file does not fit.
     fn note_misfit(&self, geometry: &Geometry, beyond: Option<FileName>) {
         if agrees(self.alloc, self, geometry).is_err() {
@@ -167,56 +148,120 @@ where
             self.note_file(name, "is one file too many");
         }
     }
+}
 
-    // The areas of a store's files, which are opened in the order of the areas, and after them that of this name.
-    fn open_areas(
-        &self,
+// The store of this size that is in the folder.
+fn open_at<F: FolderRef>(at: &F, geometry: &Geometry) -> Result<OpenStore<F>, Unopened>
+where
+    <F::Runtime as Files>::File: SharedFile,
+{
+    let folder = at.folder();
+    let guard = folder.noted(FaultPlace::Folder, folder.lock())?;
+    let areas = renewed_areas(at, geometry)?;
+    if let Some(file) = folder.noted(FaultPlace::Name(StoreName::Size), folder.size_file())? {
+        folder.make_stable(FaultPlace::Name(StoreName::Size), &file)?;
+    }
+    folder.make_stable(FaultPlace::Folder, &guard)?;
+    Ok(OpenStore { areas, guard })
+}
+
+// The areas of the store's files. Where a fault has left its mark the files are copied before.
+fn renewed_areas<F: FolderRef>(at: &F, geometry: &Geometry) -> Result<Vec<StoreArea<F>>, Unopened>
+where
+    <F::Runtime as Files>::File: SharedFile,
+{
+    let folder = at.folder();
+    let beyond = folder.first_beyond(geometry)?;
+    let is_marked = folder.stands(StoreName::Mark)?;
+    let areas = open_areas(at, geometry, beyond, Access::Change)?;
+    if beyond.is_some() || !have_lengths(geometry, &areas) {
+        folder.note_misfit(geometry, beyond);
+        return Ok(areas);
+    }
+    agrees(folder.alloc, folder, geometry)?;
+    if !is_marked {
+        return Ok(areas);
+    }
+    drop(areas);
+    renew_store(&mut Directory::new(folder), geometry)?;
+    Ok(open_areas(at, geometry, None, Access::Change)?)
+}
+
+// The areas of a store's files, which are opened in the order of the areas, and after them that of this name.
+fn open_areas<F: FolderRef>(
+    at: &F,
+    geometry: &Geometry,
+    beyond: Option<FileName>,
+    access: Access,
+) -> Result<Vec<StoreArea<F>>, FolderFault>
+where
+    <F::Runtime as Files>::File: SharedFile,
+{
+    let mut areas = Vec::new(at.folder().alloc);
+    for area in 0..geometry.nodes as usize + geometry.segments as usize {
+        if let Some(file) = StoreFile::of_area(geometry, area) {
+            add_area(at, &mut areas, file.name, access)?;
+        }
+    }
+    if let Some(name) = beyond {
+        add_area(at, &mut areas, name, access)?;
+    }
+    Ok(areas)
+}
+
+// Opens the file of this name as one area more.
+fn add_area<F: FolderRef>(
+    at: &F,
+    areas: &mut Vec<StoreArea<F>>,
+    name: FileName,
+    access: Access,
+) -> Result<(), FolderFault>
+where
+    <F::Runtime as Files>::File: SharedFile,
+{
+    let place = FaultPlace::Name(StoreName::File(name));
+    let area = at.folder().noted(place, open_area(at, name, access))?;
+    areas.push(area).map_err(AllocError::from)?;
+    Ok(())
+}
+
+// The area of the file of this name, whose lock is taken.
+fn open_area<F: FolderRef>(at: &F, name: FileName, access: Access) -> io::Result<StoreArea<F>>
+where
+    <F::Runtime as Files>::File: SharedFile,
+{
+    let folder = at.folder();
+    let mark = folder.path_of(StoreName::Mark)?;
+    let mut options = OpenOptions::new();
+    options.read(true).write(access == Access::Change);
+    let (file, len) = folder.open_file(name, &options)?;
+    let tried = match access {
+        Access::Change => file.try_lock(),
+        Access::Read => file.try_lock_shared(),
+    };
+    folder.locked(&file, tried)?;
+    let area = FileArea::of_file(file, len)?;
+    Ok(area.witnessed_by(FileWatch::new(at.share()?, name, mark)))
+}
+
+impl<R: Files + Drop> StoreFolder<R, String>
+where
+    R::File: SharedFile,
+{
+    /// As `open`, with areas that are owners of the folder.
+    ///
+    /// # Errors
+    ///
+    /// As of `open`.
+    pub fn open_shared(
+        folder: &SharedFolder<R>,
         geometry: &Geometry,
-        beyond: Option<FileName>,
-        access: Access,
-    ) -> Result<Vec<StoreArea<'_, R>>, FolderFault> {
-        let mut areas = Vec::new(self.alloc);
-        for area in 0..geometry.nodes as usize + geometry.segments as usize {
-            if let Some(file) = StoreFile::of_area(geometry, area) {
-                self.add_area(&mut areas, file.name, access)?;
-            }
-        }
-        if let Some(name) = beyond {
-            self.add_area(&mut areas, name, access)?;
-        }
-        Ok(areas)
-    }
-
-    // Opens the file of this name as one area more.
-    fn add_area<'f>(
-        &'f self,
-        areas: &mut Vec<StoreArea<'f, R>>,
-        name: FileName,
-        access: Access,
-    ) -> Result<(), FolderFault> {
-        let place = FaultPlace::Name(StoreName::File(name));
-        let area = self.noted(place, self.open_area(name, access))?;
-        areas.push(area).map_err(AllocError::from)?;
-        Ok(())
-    }
-
-    // The area of the file of this name, whose lock is taken.
-    fn open_area(&self, name: FileName, access: Access) -> io::Result<StoreArea<'_, R>> {
-        let mark = self.path_of(StoreName::Mark)?;
-        let mut options = OpenOptions::new();
-        options.read(true).write(access == Access::Change);
-        let (file, len) = self.open_file(name, &options)?;
-        let tried = match access {
-            Access::Change => file.try_lock(),
-            Access::Read => file.try_lock_shared(),
-        };
-        self.locked(&file, tried)?;
-        let area = FileArea::of_file(file, len)?;
-        Ok(area.witnessed_by(FileWatch::new(self, name, mark)))
+    ) -> Result<OpenStore<SharedFolder<R>>, Unopened> {
+        open_at(folder, geometry)
     }
 }
 
-impl<R: Files> SizeSource for StoreFolder<'_, R>
+impl<R: Files, P: AsPath> SizeSource for StoreFolder<R, P>
 where
     R::File: HeldFile,
 {
@@ -262,7 +307,7 @@ where
     }
 }
 
-impl<R: Files> StoreFolder<'_, R>
+impl<R: Files, P: AsPath> StoreFolder<R, P>
 where
     R::File: HeldFile,
 {

@@ -11,24 +11,28 @@ use crate::store_file::StoreFile;
 use crate::store_name::StoreName;
 use lc_disk::{HeldFile, open_regular};
 use lc_record::Geometry;
-use std::alloc::Global;
+use std::alloc::{AllocError, Global};
 use std::fs::{self, File, Metadata, OpenFile, OpenOptions, TryLockError};
 use std::io::{self, Error, ErrorKind};
 use std::os::unix::fs::{FileExt, FileTypeExt};
 use std::path::{AsPath, Path};
 use std::rt::Files;
-use std::sync::OnceLock;
 use std::sync::atomic::{AtomicBool, Ordering};
+use std::sync::{Arc, OnceLock};
 
 // More bytes than any size takes.
 const LONGEST_SIZE_FILE: u64 = 128;
 
+/// A folder with a path of its own that has several owners.
+pub type SharedFolder<R> = Arc<StoreFolder<R, String>, Global>;
+
 /// The folder of a store, by its path, with what went wrong in it: a fault that is answered does not say why. Threads may share
 /// it, and areas of its files that note their faults in it. This project's own.
-pub struct StoreFolder<'a, R> {
+#[derive(Drop)]
+pub struct StoreFolder<R, P> {
     pub(crate) alloc: Global,
-    pub(crate) rt: &'a R,
-    path: &'a str,
+    pub(crate) rt: R,
+    path: P,
     fault: OnceLock<FileFault>,
     holder: OnceLock<u32>,
     other_size: OnceLock<Geometry>,
@@ -36,24 +40,21 @@ pub struct StoreFolder<'a, R> {
     is_unstated: AtomicBool,
 }
 
-impl<R> Drop for StoreFolder<'_, R> {
-    fn drop(self) {
-        let StoreFolder {
-            alloc: _alloc,
-            rt: _rt,
-            path: _path,
-            fault: _fault,
-            holder: _holder,
-            other_size: _other_size,
-            is_unmarked: _is_unmarked,
-            is_unstated: _is_unstated,
-        } = self;
+impl<R: Drop> StoreFolder<R, String> {
+    /// The folder at this path, of which nothing is asked yet, for `open_shared`.
+    ///
+    /// # Errors
+    ///
+    /// Where there is no memory.
+    pub fn shared(alloc: Global, rt: R, path: &str) -> Result<SharedFolder<R>, AllocError> {
+        let path = String::from_str(alloc, path)?;
+        Ok(Arc::new(alloc, StoreFolder::new(alloc, rt, path))?)
     }
 }
 
-impl<'a, R> StoreFolder<'a, R> {
+impl<R, P: AsPath> StoreFolder<R, P> {
     /// The folder at this path, of which nothing is asked yet.
-    pub fn new(alloc: Global, rt: &'a R, path: &'a str) -> StoreFolder<'a, R> {
+    pub fn new(alloc: Global, rt: R, path: P) -> StoreFolder<R, P> {
         StoreFolder {
             alloc,
             rt,
@@ -109,7 +110,7 @@ impl<'a, R> StoreFolder<'a, R> {
 
     // The path of a name in it. The empty text is the path of no folder.
     pub(crate) fn path_of(&self, name: StoreName) -> io::Result<String> {
-        let folder = self.path;
+        let folder = self.path.path_text();
         if folder.is_empty() {
             return Err(no_folder());
         }
@@ -118,7 +119,7 @@ impl<'a, R> StoreFolder<'a, R> {
 
     // The path of the folder that it stands in.
     fn parent_path(&self) -> io::Result<String> {
-        let folder = self.path;
+        let folder = self.path.path_text();
         Ok(format!(in self.alloc; "{folder}/..")?)
     }
 
@@ -136,21 +137,21 @@ impl<'a, R> StoreFolder<'a, R> {
     where
         R: Eprint,
     {
-        let folder = self.path;
+        let folder = self.path.path_text();
         if let Some(FileFault { place, error }) = self.fault() {
             let holder = self.holder_behind(error);
             let _ = match place {
-                _ if folder.is_empty() => eprintln!(self.rt; "lcrvm: '': {error}"),
-                FaultPlace::Folder => eprintln!(self.rt; "lcrvm: {folder}: {error}{holder}"),
-                FaultPlace::Parent => eprintln!(self.rt; "lcrvm: {folder}/..: {error}"),
-                FaultPlace::Name(name) => eprintln!(self.rt;
+                _ if folder.is_empty() => eprintln!(&self.rt; "lcrvm: '': {error}"),
+                FaultPlace::Folder => eprintln!(&self.rt; "lcrvm: {folder}: {error}{holder}"),
+                FaultPlace::Parent => eprintln!(&self.rt; "lcrvm: {folder}/..: {error}"),
+                FaultPlace::Name(name) => eprintln!(&self.rt;
                     "lcrvm: {folder}/{name}: {error}{holder}"
                 ),
             };
         }
         if self.is_unmarked.load(Ordering::SeqCst) {
             let mark = StoreName::Mark;
-            let _ = eprintln!(self.rt;
+            let _ = eprintln!(&self.rt;
                 "lcrvm: {folder}/{mark}: not made: unmount the file system before the store is opened again"
             );
         }
@@ -161,19 +162,19 @@ impl<'a, R> StoreFolder<'a, R> {
     where
         R: Eprint,
     {
-        let folder = self.path;
+        let folder = self.path.path_text();
         let name = StoreName::Size;
         if let Some(stated) = self.other_size.get() {
             let nodes = stated.nodes;
             let segments = stated.segments;
             let pages = stated.pages;
             let words = stated.words;
-            let _ = eprintln!(self.rt;
+            let _ = eprintln!(&self.rt;
                 "lcrvm: {folder}/{name}: nodes {nodes} segments {segments} pages {pages} words {words}"
             );
         }
         if self.is_unstated.load(Ordering::SeqCst) {
-            let _ = eprintln!(self.rt;
+            let _ = eprintln!(&self.rt;
                 "lcrvm: {folder}: the size is only as found: it has no {name}"
             );
         }
@@ -184,12 +185,12 @@ impl<'a, R> StoreFolder<'a, R> {
     where
         R: Eprint,
     {
-        let folder = self.path;
-        let _ = eprintln!(self.rt; "lcrvm: {folder}/{name}: is there already");
+        let folder = self.path.path_text();
+        let _ = eprintln!(&self.rt; "lcrvm: {folder}/{name}: is there already");
     }
 }
 
-impl<R: Files> StoreFolder<'_, R>
+impl<R: Files, P: AsPath> StoreFolder<R, P>
 where
     R::File: SharedFile,
 {
@@ -201,7 +202,7 @@ where
     }
 }
 
-impl<R: Files> StoreFolder<'_, R>
+impl<R: Files, P: AsPath> StoreFolder<R, P>
 where
     R::File: HeldFile,
 {
@@ -210,25 +211,26 @@ where
     where
         R: Eprint,
     {
-        let folder = self.path;
+        let folder = self.path.path_text();
         if let Ok(true) = self.is_taken(name) {
-            let _ = eprintln!(self.rt; "lcrvm: {folder}/{name}: left in place");
+            let _ = eprintln!(&self.rt; "lcrvm: {folder}/{name}: left in place");
         }
     }
 
     // The folder, opened.
     fn opened(&self) -> io::Result<R::File> {
-        if self.path.is_empty() {
+        let folder = self.path.path_text();
+        if folder.is_empty() {
             return Err(no_folder());
         }
-        self.opened_at(self.path)
+        self.opened_at(folder)
     }
 
-    fn opened_at<P: AsPath + Copy + Drop>(&self, path: P) -> io::Result<R::File> {
-        if !fs::metadata(self.rt, path)?.is_dir() {
+    fn opened_at<Q: AsPath + Copy + Drop>(&self, path: Q) -> io::Result<R::File> {
+        if !fs::metadata(&self.rt, path)?.is_dir() {
             return Err(Error::new(ErrorKind::NotADirectory, "not a folder"));
         }
-        File::open(self.rt, path)?.beside_standard_streams()
+        File::open(&self.rt, path)?.beside_standard_streams()
     }
 
     // The folder, which no other process can open so until this is closed.
@@ -254,7 +256,7 @@ where
         let Ok(metadata) = file.metadata() else {
             return;
         };
-        if let Ok(Some(process)) = lock_holder(self.alloc, self.rt, &metadata) {
+        if let Ok(Some(process)) = lock_holder(self.alloc, &self.rt, &metadata) {
             let _ = self.holder.try_set(process);
         }
     }
@@ -262,7 +264,7 @@ where
     // How long the file of this name is, where there is one.
     pub(crate) fn len_of(&self, name: FileName) -> io::Result<Option<u64>> {
         let path = self.path_of(StoreName::File(name))?;
-        match fs::metadata(self.rt, &path) {
+        match fs::metadata(&self.rt, &path) {
             Ok(metadata) if !metadata.is_file() => Err(no_file(&metadata)),
             Ok(metadata) => Ok(Some(metadata.len())),
             Err(error) if error.kind() == ErrorKind::NotFound => Ok(None),
@@ -278,7 +280,7 @@ where
 
     // What stands at this path, if anything does. A link counts, wherever it leads.
     pub(crate) fn standing(&self, path: &str) -> io::Result<Option<Metadata>> {
-        match fs::symlink_metadata(self.rt, path) {
+        match fs::symlink_metadata(&self.rt, path) {
             Ok(metadata) => Ok(Some(metadata)),
             Err(error) if error.kind() == ErrorKind::NotFound => Ok(None),
             Err(error) => Err(error),
@@ -293,7 +295,7 @@ where
         };
         match self.standing(&path)? {
             Some(metadata) if !metadata.is_file() => Err(no_file(&metadata)),
-            Some(_) => fs::remove_file(self.rt, &path),
+            Some(_) => fs::remove_file(&self.rt, &path),
             None => Ok(()),
         }
     }
@@ -301,7 +303,7 @@ where
     // Where the file of this name is: of a link that is where it leads to.
     fn file_path(&self, name: FileName) -> io::Result<String> {
         let path = self.path_of(StoreName::File(name))?;
-        if fs::symlink_metadata(self.rt, &path)?.is_symlink() {
+        if fs::symlink_metadata(&self.rt, &path)?.is_symlink() {
             Ok(self.rt.canonicalize(self.alloc, &path)?.into_string())
         } else {
             Ok(path)
@@ -321,7 +323,7 @@ where
     pub(crate) fn replace(&self, name: FileName) -> io::Result<()> {
         let named = self.path_of(StoreName::File(name))?;
         let path = self.file_path(name)?;
-        fs::rename(self.rt, &self.beside(&path)?, &path)?;
+        fs::rename(&self.rt, &self.beside(&path)?, &path)?;
         match Path::new(&path).parent() {
             Some(folder) if path != named => self.opened_at(folder)?.sync_all(),
             _ => Ok(()),
@@ -348,9 +350,9 @@ where
     }
 
     fn open_plain(&self, path: &str, options: &OpenOptions) -> io::Result<(R::File, u64)> {
-        let metadata = fs::metadata(self.rt, path)?;
+        let metadata = fs::metadata(&self.rt, path)?;
         if metadata.is_file() {
-            open_regular(self.rt, options, path)
+            open_regular(&self.rt, options, path)
         } else {
             Err(no_file(&metadata))
         }
@@ -422,7 +424,7 @@ where
 
     // Leaves the mark, so that who opens the store next copies its files first. What stands under its name is one.
     pub(crate) fn mark(&self, path: &str) {
-        match exclusive().open(self.rt, path) {
+        match exclusive().open(&self.rt, path) {
             Ok(_) => {}
             Err(error) if error.kind() == ErrorKind::AlreadyExists => {}
             Err(_) => self.is_unmarked.store(true, Ordering::SeqCst),

@@ -8,7 +8,7 @@ use crate::finding::found;
 use crate::recovering::recovered_on;
 use lc_core::CallFault;
 use lc_disk::Area;
-use lc_files::{OpenStore, SharedFile, StoreArea, StoreFolder};
+use lc_files::{OpenStore, SharedFile, SharedFolder, StoreArea, StoreFolder};
 use lc_node::Node;
 use lc_record::Geometry;
 use lc_stage::CommitSeat;
@@ -26,10 +26,11 @@ pub struct Serving<D: Area + Drop, G: Drop> {
     guard: G,
 }
 
-/// A running node on a store in a folder: no other process opens the folder.
-pub type FolderServing<'a, R> = Serving<StoreArea<'a, R>, <R as Files>::File>;
+/// A running node on a store in a folder, which its areas own, so that threads of any life can have it: no other process opens
+/// the folder.
+pub type FolderServing<R> = Serving<StoreArea<SharedFolder<R>>, <R as Files>::File>;
 
-impl<'a, R: Files> Serving<StoreArea<'a, R>, R::File>
+impl<R: Files + Drop> Serving<StoreArea<SharedFolder<R>>, R::File>
 where
     R::File: SharedFile,
 {
@@ -41,16 +42,16 @@ where
     /// As of `Store::open`.
     pub fn open(
         alloc: Global,
-        folder: &'a StoreFolder<'a, R>,
+        folder: &SharedFolder<R>,
         geometry: Geometry,
-    ) -> Result<(FolderServing<'a, R>, CommitSeat), StoreOpenFault>
+    ) -> Result<(FolderServing<R>, CommitSeat), StoreOpenFault>
         ensures seat { IfOk result (λ made. IsSeatOf made.0.node.stage made.1 × (commit_view made.1 ≡ newcomer geometry.words)) }
         ensures number { IfOk result (λ made. made.0.node.number ≡ 0) }
         ensures room { IfOk result (λ made. made.0.node.stage.room ≡ geometry.words) }
         ensures segments { IfOk result (λ made. length made.0.node.segments.items ≡ geometry.segments) }
         ensures bad_threads { result ≢ Err StoreOpenFault.BadThreads }
     {
-        let OpenStore { areas, guard } = folder.open(&geometry)?;
+        let OpenStore { areas, guard } = StoreFolder::open_shared(folder, &geometry)?;
         let recovered = recovered_on(alloc, geometry, areas)?;
         match Node::open(alloc, recovered) {
             Ok((node, seat)) => Ok((Serving { node, guard }, seat)),
@@ -66,12 +67,12 @@ where
     /// As of `open`; and `NoStore` where the files are those of no store.
     pub fn open_as_found(
         alloc: Global,
-        folder: &'a StoreFolder<'a, R>,
-    ) -> Result<(FolderServing<'a, R>, CommitSeat), StoreOpenFault>
+        folder: &SharedFolder<R>,
+    ) -> Result<(FolderServing<R>, CommitSeat), StoreOpenFault>
         ensures seat { IfOk result (λ made. IsSeatOf made.0.node.stage made.1 × (commit_view made.1 ≡ newcomer made.0.node.stage.room)) }
         ensures number { IfOk result (λ made. made.0.node.number ≡ 0) }
         ensures bad_threads { result ≢ Err StoreOpenFault.BadThreads }
     {
-        Serving::open(alloc, folder, found(alloc, folder, ANY_THREADS)?)
+        Serving::open(alloc, folder, found(alloc, &**folder, ANY_THREADS)?)
     }
 }

@@ -13,6 +13,7 @@ use lc_disk::Area;
 use lc_files::{OpenStore, SharedFile, StoreArea, StoreFolder};
 use lc_record::Geometry;
 use std::alloc::Global;
+use std::path::AsPath;
 use std::rt::Files;
 
 /// A store that is open, and what keeps other processes from it until this is dropped. This project's own.
@@ -24,9 +25,9 @@ pub struct Store<D: Area + Drop, G: Drop> {
 }
 
 /// A store in a folder: no other process opens the folder.
-pub type FolderStore<'a, R> = Store<StoreArea<'a, R>, <R as Files>::File>;
+pub type FolderStore<'a, R, P> = Store<StoreArea<&'a StoreFolder<R, P>>, <R as Files>::File>;
 
-impl<'a, R: Files> Store<StoreArea<'a, R>, R::File>
+impl<'a, R: Files, P: AsPath> Store<StoreArea<&'a StoreFolder<R, P>>, R::File>
 where
     R::File: SharedFile,
 {
@@ -40,11 +41,11 @@ where
     /// device, or `NoMemory`: opened again, it begins again.
     pub fn open(
         alloc: Global,
-        folder: &'a StoreFolder<'a, R>,
+        folder: &'a StoreFolder<R, P>,
         geometry: Geometry,
-    ) -> Result<FolderStore<'a, R>, StoreOpenFault>
-        ensures up { IfOk result (λ store. (observed ⟦<StoreArea<'a, R> as Area>⟧ store.world).up ≡ true) }
-        ensures geometry { IfOk result (λ store. phase_geometry ⟦<StoreArea<'a, R> as Area>⟧ store.world.phase ≡ Some geometry) }
+    ) -> Result<FolderStore<'a, R, P>, StoreOpenFault>
+        ensures up { IfOk result (λ store. (observed ⟦<StoreArea<&'a StoreFolder<R, P>> as Area>⟧ store.world).up ≡ true) }
+        ensures geometry { IfOk result (λ store. phase_geometry ⟦<StoreArea<&'a StoreFolder<R, P>> as Area>⟧ store.world.phase ≡ Some geometry) }
         ensures bad_threads { result ≢ Err StoreOpenFault.BadThreads }
     {
         let OpenStore { areas, guard } = folder.open(&geometry)?;
@@ -61,11 +62,11 @@ where
     /// files are those of no store; and as of `open`.
     pub fn open_as_found(
         alloc: Global,
-        folder: &'a StoreFolder<'a, R>,
+        folder: &'a StoreFolder<R, P>,
         threads: u16,
-    ) -> Result<FolderStore<'a, R>, StoreOpenFault>
-        ensures up { IfOk result (λ store. (observed ⟦<StoreArea<'a, R> as Area>⟧ store.world).up ≡ true) }
-        ensures geometry { IfOk result (λ store. (g : Sizes) × (phase_geometry ⟦<StoreArea<'a, R> as Area>⟧ store.world.phase ≡ Some g) × (g.threads ≡ threads)) }
+    ) -> Result<FolderStore<'a, R, P>, StoreOpenFault>
+        ensures up { IfOk result (λ store. (observed ⟦<StoreArea<&'a StoreFolder<R, P>> as Area>⟧ store.world).up ≡ true) }
+        ensures geometry { IfOk result (λ store. (g : Sizes) × (phase_geometry ⟦<StoreArea<&'a StoreFolder<R, P>> as Area>⟧ store.world.phase ≡ Some g) × (g.threads ≡ threads)) }
         ensures bad_threads { (result ≡ Err StoreOpenFault.BadThreads) ↔ IsNoThreadCount threads }
     {
         Store::open(alloc, folder, found(alloc, folder, threads)?)

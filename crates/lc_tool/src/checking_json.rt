@@ -60,7 +60,7 @@ where
 // The same, but for what is said on standard error.
 fn look<R: Files, W: Write>(
     alloc: Global,
-    folder: &StoreFolder<'_, R>,
+    folder: &StoreFolder<&R, &str>,
     size: &Size,
     writer: &mut W,
 ) -> Result<u8, WriteFault>
@@ -91,7 +91,7 @@ fn tell_unlooked<W: Write>(writer: &mut W, fault: FolderFault) -> Result<u8, Wri
 // The object of a store whose files tell this size, or do not fit together so.
 fn show<R: Files, W: Write>(
     alloc: Global,
-    folder: &StoreFolder<'_, R>,
+    folder: &StoreFolder<&R, &str>,
     size: &Size,
     found: &Result<Geometry, Misfit>,
     writer: &mut W,
@@ -110,7 +110,7 @@ where
 // The rest of the object of a store of this size.
 fn show_files<R: Files, W: Write>(
     alloc: Global,
-    folder: &StoreFolder<'_, R>,
+    folder: &StoreFolder<&R, &str>,
     geometry: &Geometry,
     writer: &mut W,
 ) -> Result<u8, WriteFault>

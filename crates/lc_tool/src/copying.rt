@@ -59,8 +59,8 @@ where
 
 // The same, but for what is said on standard error.
 fn copy_in<R: Files + Eprint, W: Write>(
-    store: &StoreFolder<'_, R>,
-    copy: &StoreFolder<'_, R>,
+    store: &StoreFolder<&R, &str>,
+    copy: &StoreFolder<&R, &str>,
     wanted: &Wanted,
     writer: &mut W,
 ) -> Result<u8, WriteFault>
@@ -85,8 +85,8 @@ where
 
 // Makes the copy of a store of this size.
 fn copy_found<R: Files + Eprint, W: Write>(
-    store: &StoreFolder<'_, R>,
-    copy: &StoreFolder<'_, R>,
+    store: &StoreFolder<&R, &str>,
+    copy: &StoreFolder<&R, &str>,
     found: &Geometry,
     wanted: &Wanted,
     writer: &mut W,
@@ -118,8 +118,8 @@ fn copy_size(found: &Geometry, wanted: &Wanted) -> Result<Geometry, NoCopySize>
 
 // Makes the copy, of this size, of the files of a store.
 fn copy_files<R: Files + Eprint, W: Write>(
-    store: &StoreFolder<'_, R>,
-    copy: &StoreFolder<'_, R>,
+    store: &StoreFolder<&R, &str>,
+    copy: &StoreFolder<&R, &str>,
     found: &Geometry,
     geometry: &Geometry,
     writer: &mut W,

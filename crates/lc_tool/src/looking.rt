@@ -97,7 +97,7 @@ where
 // The same, but for what is said on standard error.
 fn look_in<R: Files, W: Write>(
     alloc: Global,
-    folder: &StoreFolder<'_, R>,
+    folder: &StoreFolder<&R, &str>,
     view: StoreReport,
     writer: &mut W,
 ) -> Result<u8, WriteFault>
@@ -120,7 +120,7 @@ where
 // The view of a store whose files tell this size, or do not fit together so.
 fn show_store<R: Files, W: Write>(
     alloc: Global,
-    folder: &StoreFolder<'_, R>,
+    folder: &StoreFolder<&R, &str>,
     view: StoreReport,
     found: Result<Geometry, Misfit>,
     writer: &mut W,
@@ -191,7 +191,7 @@ pub(crate) fn taken_of(view: StoreReport, found: &Result<Geometry, Misfit>) -> R
 // The view of the files of a store of this size.
 fn show_files<R: Files, W: Write>(
     alloc: Global,
-    folder: &StoreFolder<'_, R>,
+    folder: &StoreFolder<&R, &str>,
     view: StoreReport,
     geometry: &Geometry,
     writer: &mut W,

@@ -23,7 +23,7 @@ pub(crate) fn tell_size_found<R: Files + Eprint>(
     alloc: Global,
     rt: &R,
     path: &str,
-    folder: &StoreFolder<'_, R>,
+    folder: &StoreFolder<&R, &str>,
 )
 where
     R::File: SharedFile,

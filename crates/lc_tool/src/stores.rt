@@ -51,8 +51,8 @@ where
 
 /// Says on standard error which name is taken, and which files are left.
 pub(crate) fn tell_unmade<R: Files + Eprint>(
-    folder: &StoreFolder<'_, R>,
-    directory: &Directory<'_, R>,
+    folder: &StoreFolder<&R, &str>,
+    directory: &Directory<'_, &R, &str>,
     geometry: &Geometry,
     unmade: &Unmade,
 )
@@ -98,7 +98,7 @@ fn recover_in<R: Files + Eprint, W: Write>(
     alloc: Global,
     rt: &R,
     errors: ErrorOutput,
-    folder: &StoreFolder<'_, R>,
+    folder: &StoreFolder<&R, &str>,
     geometry: Geometry,
     misfits: &Cell<bool>,
     writer: &mut W,
@@ -159,7 +159,7 @@ fn run_in<R: Files + Eprint, I: Read, W: Write>(
     alloc: Global,
     rt: &R,
     errors: ErrorOutput,
-    folder: &StoreFolder<'_, R>,
+    folder: &StoreFolder<&R, &str>,
     geometry: Geometry,
     manner: Manner,
     misfits: &Cell<bool>,

@@ -48,7 +48,7 @@ fn main(rt: HostRuntime) -> io::Result<ExitCode> {
     let theirs = Arc::try_clone(&queues)?;
     // It is joined only after its end: a thread that waits for input cannot be stopped.
     let reader = thread::spawn(&rt, move || read_lines(&rt, &theirs)).map_err(AllocError::from)?;
-    let folder = StoreFolder::new(alloc, &rt, path.as_str());
+    let folder = StoreFolder::shared(alloc, rt, &path)?;
     // One node with 8 threads, one segment of 16 pages, and a log of 4096 words.
     let geometry = Geometry::new(1, 8, 1, 16, 4096).unwrap();
     let served = match Serving::open(alloc, &folder, geometry) {
