@@ -18,9 +18,9 @@ module _ {D : Type 0} where
   abbrev pub HadToken : Cluster D → ℕ → ℕ → Type 0
   HadToken cluster number segment = WasLookedFor cluster number segment true
 
-  -- the node of this number has no such segment, or the token did not stand there at one moment
+  -- if the node of this number has the segment, its token was looked for there, and was elsewhere
   abbrev pub LackedToken : Cluster D → ℕ → ℕ → Type 0
-  LackedToken cluster number segment = (HasSegmentAt cluster number segment → ⊥) ⊎ WasLookedFor cluster number segment false
+  LackedToken cluster number segment = HasSegmentAt cluster number segment → WasLookedFor cluster number segment false
 
 module _ {D : Type 0} (a : Ghosts D) where
   -- a peer lacked the token, or it was to hand it over to the node of this number, and this is its answer

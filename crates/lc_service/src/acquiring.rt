@@ -88,13 +88,17 @@ fn ask<D: Area + Drop, R: AllocGlobal + Wait>(
     ensures refused { IfErr result (λ fault. IsOfDevice fault × FailsAtPeer D.Area cluster.now to segment fault) }
 {
     let node = cluster.node(from);
+    if !node.has(segment) {
+        return Ok(());
+    }
     if !node.has_token(rt, segment) {
         return Ok(());
     }
     node.flush(rt)?;
     let _spread = cluster.spread(rt, rt.alloc(), from);
     match cluster.give(rt, from, to, segment) {
-        Err(fault @ (NodeFault::DeviceFault | NodeFault::Halted)) => Err(fault),
+        Err(NodeFault::DeviceFault) => Err(NodeFault::DeviceFault),
+        Err(NodeFault::Halted) => Err(NodeFault::Halted),
         _ => Ok(()),
     }
 }

@@ -18,7 +18,8 @@ impl<D: Area + Drop> Round for Node<D> {
             return Ok(());
         }
         match self.truncate(rt, rt.alloc()) {
-            Err(fault @ (NodeFault::DeviceFault | NodeFault::Halted)) => Err(fault),
+            Err(NodeFault::DeviceFault) => Err(NodeFault::DeviceFault),
+            Err(NodeFault::Halted) => Err(NodeFault::Halted),
             _ => Ok(()),
         }
     }

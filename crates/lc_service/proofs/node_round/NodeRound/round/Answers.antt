@@ -1,4 +1,4 @@
-use Rattle.std.proofs.Common.{inl, inr}
+use Rattle.std.proofs.Common.{refl, subst, inl, inr}
 use Rattle.std.specs.Prelude.{Err, IfErr, IfOk, Ok}
 use Rattle.lc_node.specs.Truncates.{HasNotTruncated, HasTruncated}
 use Rattle.lc_service.specs.Round.{WasAsked}
@@ -13,3 +13,9 @@ returns-in_default-2-clause-kept g c =
       | Err fault ↦ λ truncated refused. inr (fault, refused)
     ] c.truncate.ensures.truncated c.truncate.ensures.refused in
     record { count = c.in_ok-flush.field-0; flushed = c.in_ok-flush.ensures.flushed; taken = c.stable_words.result; words = c.stable_words.ensures; emptied = λ due. asked }
+
+pub returns-in-Err-DeviceFault-clause-refused : goal.returns-in-Err-DeviceFault-clause-refused
+returns-in-Err-DeviceFault-clause-refused g c = (inl refl, inr (subst (HasNotTruncated g.D.Area c.args.self.now) c.in-Err-DeviceFault.field-0-is c.in-Err-DeviceFault.ensures.refused))
+
+pub returns-in-Err-Halted-clause-refused : goal.returns-in-Err-Halted-clause-refused
+returns-in-Err-Halted-clause-refused g c = (inr refl, inr (subst (HasNotTruncated g.D.Area c.args.self.now) c.in-Err-Halted.field-0-is c.in-Err-Halted.ensures.refused))
