@@ -8,8 +8,7 @@ use lc_disk::{FileArea, Stoppable};
 use lc_files::{FileName, FolderFault, Misfit, StoreFolder};
 use lc_node::{Commit, Mode, Put};
 use lc_record::Geometry;
-use lc_stage::CommitSeat;
-use lc_store::{FolderServing, Serving, Store, StoreOpenFault};
+use lc_store::{Serving, Store, StoreOpenFault};
 use std::fs;
 use std::process::Abort;
 use std::test::*;
@@ -27,19 +26,13 @@ const NO_LOG: StoreOpenFault = StoreOpenFault::NoStore(Misfit::Missing(FileName:
 // The segments are after the one log.
 const SHORT_SEGMENT: StoreOpenFault = StoreOpenFault::BadGeometry { area: 1 };
 
-// A running node that is the last owner of its folder.
-fn served(rt: HostRuntime, path: &str) -> Result<(FolderServing<HostRuntime>, CommitSeat), Fail> {
-    let folder = StoreFolder::shared(rt.alloc(), rt, path)?;
-    Ok(Serving::open_as_found(rt.alloc(), &folder)?)
-}
-
 #[test]
 fn what_a_node_made_durable_a_store_reads(rt: HostRuntime) -> Result<(), Fail> {
     let alloc = rt.alloc();
     let path = new_folder(&rt, "openings")?;
     drop(made(&rt, &path)?);
-    let folder = StoreFolder::new(alloc, &rt, path.as_str());
-    let (serving, seat) = served(rt, &path)?;
+    let folder = StoreFolder::shared(alloc, rt, &path)?;
+    let (serving, seat) = Serving::open_as_found(alloc, &folder)?;
     let (_seat, done) = put(&rt, alloc, &serving.node, seat, &[2], HELLO, Mode::Flush);
     assert!(rt; matches!(done, Ok(Commit::Flushed(_))));
     assert!(rt; Store::open_as_found(alloc, &folder, 1).err() == Some(IN_USE));
@@ -84,11 +77,13 @@ fn two_nodes_and_two_segments_are_opened_as_found(rt: HostRuntime) -> Result<(),
     drop(made(&rt, &path)?);
     let second_log = format!(in alloc; "{}/log1", path.as_str())?;
     drop(FileArea::try_make(&rt, &second_log, LOG_BYTES)?);
-    let folder = StoreFolder::new(alloc, &rt, path.as_str());
+    let folder = StoreFolder::shared(alloc, rt, &path)?;
     let mut store = Store::open_as_found(alloc, &folder, 1)?;
     has_two_of_each(&rt, &mut store.world);
     drop(store);
-    let (serving, seat) = served(rt, &path)?;
+    let (serving, seat) = Serving::open_as_found(alloc, &folder)?;
+    // The running node is the last owner of its folder.
+    drop(folder);
     let (_seat, done) = put(&rt, alloc, &serving.node, seat, &[1, 2], HELLO, Mode::Flush);
     assert!(rt; matches!(done, Ok(Commit::Flushed(_))));
     drop(serving);
@@ -100,14 +95,13 @@ fn two_nodes_and_two_segments_are_opened_as_found(rt: HostRuntime) -> Result<(),
 fn what_is_no_store_is_not_opened(rt: HostRuntime) -> Result<(), Fail> {
     let alloc = rt.alloc();
     let path = new_folder(&rt, "no-openings")?;
-    let folder = StoreFolder::new(alloc, &rt, path.as_str());
+    let folder = StoreFolder::shared(alloc, rt, &path)?;
     assert!(rt; Store::open_as_found(alloc, &folder, 1).err() == Some(NO_LOG));
-    let shared = StoreFolder::shared(alloc, rt, &path)?;
-    assert!(rt; Serving::open_as_found(alloc, &shared).err() == Some(NO_LOG));
+    assert!(rt; Serving::open_as_found(alloc, &folder).err() == Some(NO_LOG));
     drop(made(&rt, &path)?);
     let longer = Geometry::new(1, 1, 2, 3, 4096).ok_or("these numbers are a geometry")?;
     assert!(rt; Store::open(alloc, &folder, longer).err() == Some(SHORT_SEGMENT));
-    assert!(rt; Serving::open(alloc, &shared, longer).err() == Some(SHORT_SEGMENT));
+    assert!(rt; Serving::open(alloc, &folder, longer).err() == Some(SHORT_SEGMENT));
     fs::remove_dir_all(&rt, &path)?;
     Ok(())
 }
