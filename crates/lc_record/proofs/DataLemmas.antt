@@ -1,6 +1,6 @@
 -- The bytes of a range as whole words, and back.
 use Rattle.std.proofs.Common.{◌≡◌, ℕ, zero, suc, ◌+◌, ◌-◌, ◌*◌, ◌/◌, ◌<◌, ◌≤◌, min, true, eqb, List, [], ◌∷◌, ◌++◌, length, get_or, take, drop, replicate, refl, sym, ◌∙◌, ap, arith, append_assoc, length-append, length-drop, take-append-drop}
-use Rattle.std.specs.List.{list_all}
+use Rattle.std.specs.List.{list_all, slice_index}
 use Rattle.std.specs.Int.{w64, from_le_bytes, to_le_bytes}
 use Rattle.std.proofs.lemmas.Bool.{and_parts, eqb-true}
 use Rattle.std.proofs.lemmas.List.{length-take, length-take-le, length-replicate, take_at, take_all, take_min, take_more, drop_at, drop_all, drop-drop, append-nil, nil_from_length}
@@ -90,8 +90,12 @@ drop_zeros (suc n) (suc m) = let same : m - n ≡ suc m - suc n = omega arith in
 abbrev pub word_of : List ℕ → ℕ
 word_of bytes = from_le_bytes w64 (bytes ++ replicate (8 - length bytes) 0)
 
-pub word_filled : (bytes new : List ℕ) → length bytes ≤ 8 → new ≡ bytes → new ++ drop (length bytes) (replicate {A = ℕ} 8 0) ≡ bytes ++ replicate (8 - length bytes) 0
-word_filled bytes new short e = ap (λ (l : List ℕ). l ++ drop (length bytes) (replicate {A = ℕ} 8 0)) e ∙ ap (λ (l : List ℕ). bytes ++ l) (drop_zeros (length bytes) 8)
+pub filled_at : (bytes : List ℕ) (n i : ℕ) → slice_index (bytes ++ replicate n 0) i ≡ slice_index bytes i
+filled_at [] zero i = refl
+filled_at [] (suc n) zero = refl
+filled_at [] (suc n) (suc i) = filled_at [] n i
+filled_at (b ∷ bytes) n zero = refl
+filled_at (b ∷ bytes) n (suc i) = filled_at bytes n i
 
 data_last : (bytes : List ℕ) → 0 < length bytes → length bytes < 8 → data_words bytes ≡ word_of bytes ∷ []
 data_last bytes some short =
