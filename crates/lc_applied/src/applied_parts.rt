@@ -1,5 +1,6 @@
 //! The parts of records that were applied at a segment.
-ghost use Rattle.std.specs.Prelude.{◌≡◌, ◌==◌, ◌↔◌, ◌+◌, ◌-◌, ◌^◌, ◌<◌, ◌≤◌, ◌++◌, ◌∷◌, [], length, IsTrue, OnOk, OnErr};
+ghost use Rattle.std.specs.Prelude.{◌≡◌, ◌==◌, ◌↔◌, ◌+◌, ◌-◌, ◌^◌, ◌<◌, ◌≤◌, ◌++◌, ◌∷◌, [], length, IsTrue, OnOk};
+ghost use Rattle.std.specs.Prelude.{OnErr};
 ghost use Rattle.lc_range.specs.RangeSet.{EndWithin, total_len};
 ghost use Rattle.lc_applied.specs.AppliedParts.{HasRoom, HasRoomFor, laid_parts, part_of_runs, runs_of};
 

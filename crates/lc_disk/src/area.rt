@@ -1,13 +1,14 @@
 //! An area of fixed length: what a read gives, and what a stop may leave of it.
-ghost use Rattle.std.specs.Prelude.{◌≡◌, ◌+◌, ◌-◌, ◌<◌, ◌≤◌, ◌^◌, ℕ, Bool, true, false, List, length, take, drop, min, slice_index_or, OnOk, OnErr, is_ok, if◌then◌else◌};
+ghost use Rattle.std.specs.Prelude.{◌≡◌, ◌+◌, ◌-◌, ◌<◌, ◌≤◌, ◌^◌, ℕ, Bool, true, false, List, length, take, drop, min};
+ghost use Rattle.std.specs.Prelude.{slice_index_or, OnOk, OnErr, is_ok, if◌then◌else◌};
 ghost use Rattle.lc_disk.specs.Area.{IsSameOutside, BecomeDirty, overlaid};
 
 use crate::DeviceFault;
 
 /// A byte string of fixed length on a device.
 ///
-/// While the device is `honest` it keeps to this model: what it holds are bytes, and a read gives those that were
-/// written; a position that was written since the last successful sync is `dirty`, and may hold any byte after a
+/// While the device is `honest` it keeps to this model. What it holds are bytes, and a read gives those that were
+/// written. A position that was written since the last successful sync is `dirty`, and may hold any byte after a
 /// stop; the others stay. A failed write makes its whole range dirty, and a failed sync makes no position stable. A
 /// write that is stopped midway leaves what a stop after it may leave, a sync what a stop before it may. Nothing is
 /// said of a device that is not honest but that each call returns, keeps the length and counts itself and its
@@ -37,7 +38,8 @@ pub trait Area {
         requires { at + length buffer.old ≤ length (now self.old) }
         ensures honest { honest self.new ≡ honest self.old }
         ensures len { length (now self.new) ≡ length (now self.old) }
-        ensures bytes { OnOk result (honest self.old ≡ true → buffer.new ≡ take (length buffer.old) (drop at (now self.old))) }
+        ensures bytes { OnOk result (honest self.old ≡ true
+            → buffer.new ≡ take (length buffer.old) (drop at (now self.old))) }
         ensures same { honest self.old ≡ true → now self.new ≡ now self.old }
         ensures same_dirty { honest self.old ≡ true → (k : ℕ) → dirty self.new k ≡ dirty self.old k }
         ensures called { calls self.new ≡ calls self.old + 1 }

@@ -1,6 +1,6 @@
 //! What a stop does to a dirty position.
 
-/// What a stop makes of one dirty position. This project's own.
+/// What a stop makes of one dirty position.
 #[derive(Clone, Copy, PartialEq, Eq)]
 pub enum Choice {
     /// The byte that a read gave.

@@ -12,7 +12,7 @@ pub enum FileCall {
     Sync,
 }
 
-/// Is told why a call on a file failed, before the call's caller is: a `DeviceFault` does not say it. This project's own.
+/// Is told why a call on a file failed, before the call's caller is: a `DeviceFault` does not say it.
 pub trait FaultWitness: Drop {
     /// The call failed for this reason.
     fn failed(&self, call: FileCall, error: io::Error);

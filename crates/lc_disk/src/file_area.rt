@@ -1,5 +1,6 @@
 //! An area over a file.
-ghost use Rattle.std.specs.Prelude.{◌≡◌, ◌≢◌, ◌↔◌, ◌+◌, ◌<◌, ◌≤◌, ◌^◌, ℕ, true, false, length, replicate, IfOk, IsErr, if◌then◌else◌, is_ok};
+ghost use Rattle.std.specs.Prelude.{◌≡◌, ◌≢◌, ◌↔◌, ◌+◌, ◌<◌, ◌≤◌, ◌^◌, ℕ, true, false, length, replicate, IfOk, IsErr};
+ghost use Rattle.std.specs.Prelude.{if◌then◌else◌, is_ok};
 ghost use Rattle.std.proofs.Common.{rules};
 ghost use Rattle.std.proofs.lemmas.List.{length-replicate};
 ghost use Rattle.lc_disk.specs.Count.{counted};
@@ -20,8 +21,8 @@ use std::rt::Files;
 static ZEROS: [u8; 4096] = [0; 4096];
 
 /// The bytes of a file as an area. Its calls are positional and whole: one that the system cuts short goes on, one that
-/// a signal interrupts is tried again, and any other error is a fault, of which its witness is told, and is counted. A sync
-/// makes the file's data stable. No file is under a descriptor of the standard streams.
+/// a signal interrupts is tried again, and any other error is a fault, of which its witness is told, and is counted. A
+/// sync makes the file's data stable. No file is under a descriptor of the standard streams.
 ///
 /// After a write or a sync that failed each call is a fault, and none is made of the system, until the file is opened
 /// anew. What it holds in memory may then be other than what is on the device, and the system no longer tells.
@@ -29,8 +30,8 @@ static ZEROS: [u8; 4096] = [0; 4096];
 /// A sync calls the system only where there is something to sync. That is so after a write, and after the opening, for
 /// whoever had the file before may have left bytes that are not stable. A write of no bytes calls nothing.
 ///
-/// Nothing is known of what other processes do to the file, so contracts never see it as honest; a stop leaves it as it is.
-/// The file is closed where the area is dropped. This project's own.
+/// Nothing is known of what other processes do to the file, so contracts never see it as honest; a stop leaves it as it
+/// is. The file is closed where the area is dropped.
 #[derive(Drop)]
 pub struct FileArea<F = File, W = NoWitness> {
     file: F,
@@ -74,8 +75,8 @@ impl<F: HeldFile> FileArea<F> {
         FileArea::of_file(file, len)
     }
 
-    /// The bytes of a regular file that is open, as many as it has now. Where it was opened for reading alone each write is a
-    /// fault.
+    /// The bytes of a regular file that is open, as many as it has now. Where it was opened for reading alone each
+    /// write is a fault.
     ///
     /// # Errors
     ///
@@ -95,8 +96,8 @@ impl<F: HeldFile> FileArea<F> {
     ///
     /// # Errors
     ///
-    /// `Exists` where anything stands at the path, be it a link to nothing; `NotOpened` where the file cannot be made, or its
-    /// zeros not written and synced, and then it stays as it is; `NoMemory` where the system has none.
+    /// `Exists` where anything stands at the path, be it a link to nothing; `NotOpened` where the file cannot be made,
+    /// or its zeros not written and synced, and then it stays as it is; `NoMemory` where the system has none.
     pub fn make<R: Files<File = F>>(
         _alloc: Global,
         rt: &R,
@@ -181,7 +182,8 @@ impl<F: HeldFile, W: FaultWitness> FileArea<F, W> {
     fn counted(&mut self, call: FileCall, done: io::Result<()>) -> Result<(), DeviceFault>
         ensures len { file_len self.new ≡ file_len self.old }
         ensures calls { file_calls self.new ≡ file_calls self.old }
-        ensures counted { file_failures self.new ≡ (if is_ok result then file_failures self.old else file_failures self.old + 1) }
+        ensures counted { file_failures self.new
+            ≡ (if is_ok result then file_failures self.old else file_failures self.old + 1) }
         ensures told { is_ok result ≡ is_ok done }
     {
         match done {
@@ -207,8 +209,8 @@ impl<F: HeldFile, W: FaultWitness> FileArea<F, W> {
     }
 }
 
-/// The regular file at this path, opened so, and how many bytes it has now. What is no regular file is not even opened: a
-/// pipe without a writer would wait. This project's own.
+/// The regular file at this path, opened so, and how many bytes it has now. What is no regular file is not even opened:
+/// a pipe without a writer would wait.
 ///
 /// # Errors
 ///

@@ -1,5 +1,6 @@
 //! An area in memory of which chosen calls fail.
-ghost use Rattle.std.specs.Prelude.{◌≡◌, ◌+◌, ◌≤◌, ℕ, [], true, false, length, take, drop, Err, OnOk, OnErr, is_ok, not, slice_index_or};
+ghost use Rattle.std.specs.Prelude.{◌≡◌, ◌+◌, ◌≤◌, ℕ, [], true, false, length, take, drop, Err, OnOk, OnErr, is_ok};
+ghost use Rattle.std.specs.Prelude.{not, slice_index_or};
 ghost use Rattle.std.proofs.Common.{rules};
 ghost use Rattle.lc_disk.specs.Area.{IsImage, IsSameOutside, BecomeDirty, overlaid};
 ghost use Rattle.lc_disk.specs.Count.{counted};
@@ -11,7 +12,6 @@ use crate::{Area, Choice, DeviceFault, MemArea, Stoppable, When};
 
 /// An area in memory, always honest, that counts the calls `read`, `write_at` and `sync` from 1 and fails those that
 /// it was told to. The counting stops at 2^64 - 1. A failed write changes no byte and makes its range dirty.
-/// This project's own.
 #[derive(Drop)]
 pub struct Fuse {
     area: MemArea,
@@ -87,7 +87,8 @@ impl Area for Fuse {
     fn read(&mut self, at: usize, buffer: &mut [u8]) -> Result<(), DeviceFault>
         requires { at + length buffer.old ≤ length (memory_now (fuse_area self.old)) }
         ensures counted { IsCounted self.old self.new (not (is_ok result)) }
-        ensures bytes { OnOk result (buffer.new ≡ take (length buffer.old) (drop at (memory_now (fuse_area self.old)))) }
+        ensures bytes { OnOk result (buffer.new
+            ≡ take (length buffer.old) (drop at (memory_now (fuse_area self.old)))) }
         ensures same { KeepsMemory (fuse_area self.old) (fuse_area self.new) }
         ensures kept { OnErr result (buffer.new ≡ buffer.old) }
     {
@@ -100,10 +101,13 @@ impl Area for Fuse {
     fn write_at(&mut self, at: usize, bytes: &[u8]) -> Result<(), DeviceFault>
         requires { at + length bytes.now ≤ length (memory_now (fuse_area self.old)) }
         ensures counted { IsCounted self.old self.new (not (is_ok result)) }
-        ensures written { OnOk result (memory_now (fuse_area self.new) ≡ overlaid (memory_now (fuse_area self.old)) at bytes.now) }
+        ensures written { OnOk result (memory_now (fuse_area self.new)
+            ≡ overlaid (memory_now (fuse_area self.old)) at bytes.now) }
         ensures kept { OnErr result (memory_now (fuse_area self.new) ≡ memory_now (fuse_area self.old)) }
-        ensures torn { IsSameOutside at (length bytes.now) (memory_now (fuse_area self.old)) (memory_now (fuse_area self.new)) }
-        ensures dirtied { BecomeDirty at (length bytes.now) (memory_dirty (fuse_area self.old)) (memory_dirty (fuse_area self.new)) }
+        ensures torn { IsSameOutside at (length bytes.now) (memory_now (fuse_area self.old))
+            (memory_now (fuse_area self.new)) }
+        ensures dirtied { BecomeDirty at (length bytes.now) (memory_dirty (fuse_area self.old))
+            (memory_dirty (fuse_area self.new)) }
         ensures same_stable { memory_stable (fuse_area self.new) ≡ memory_stable (fuse_area self.old) }
     {
         if self.burn() {
@@ -135,15 +139,18 @@ impl Stoppable for Fuse {
     ghost use Rattle.lc_disk.specs.Fuse.{fuse_area, fuse_when, fuse_calls, fuse_failures};
     ghost use Rattle.lc_disk.specs.MemArea.{memory_dirty, memory_now, memory_stable, KeepsMemory};
 
-    ghost left = { λ f choices k. left_by_stop (memory_now f.area) (memory_stable f.area) (memory_dirty f.area) choices k };
+    ghost left = { λ f choices k. left_by_stop (memory_now f.area) (memory_stable f.area)
+        (memory_dirty f.area) choices k };
 
     /// Stops the area as it stops without a fuse: the stop is not counted and never fails.
     fn stop(&mut self, choices: &[Choice])
         ensures len { length (memory_now (fuse_area self.new)) ≡ length (memory_now (fuse_area self.old)) }
         ensures keeps { choices.now ≡ [] → memory_now (fuse_area self.new) ≡ memory_now (fuse_area self.old) }
         ensures chosen { (k : ℕ) → slice_index_or (memory_now (fuse_area self.new)) k 0
-            ≡ left_by_stop (memory_now (fuse_area self.old)) (memory_stable (fuse_area self.old)) (memory_dirty (fuse_area self.old)) choices.now k }
-        ensures image { IsImage (memory_now (fuse_area self.old)) (memory_dirty (fuse_area self.old)) (memory_now (fuse_area self.new)) }
+            ≡ left_by_stop (memory_now (fuse_area self.old)) (memory_stable (fuse_area self.old))
+            (memory_dirty (fuse_area self.old)) choices.now k }
+        ensures image { IsImage (memory_now (fuse_area self.old)) (memory_dirty (fuse_area self.old))
+            (memory_now (fuse_area self.new)) }
         ensures stable { memory_stable (fuse_area self.new) ≡ memory_now (fuse_area self.new) }
         ensures clean { (k : ℕ) → memory_dirty (fuse_area self.new) k ≡ false }
         ensures when { fuse_when self.new ≡ fuse_when self.old }

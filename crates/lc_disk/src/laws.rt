@@ -4,18 +4,21 @@ ghost use Rattle.lc_disk.specs.Area.{IsImage, IsClean};
 
 /// An image of an image is an image.
 pub fn image_of_image()
-    ensures { (now : List ℕ) (dirty : ℕ → Bool) (image other : List ℕ) → IsImage now dirty image → IsImage image dirty other → IsImage now dirty other }
+    ensures { (now : List ℕ) (dirty : ℕ → Bool) (image other : List ℕ) → IsImage now dirty image
+        → IsImage image dirty other → IsImage now dirty other }
 {}
 
 /// What keeps each byte that is read, and makes no position dirty, leaves no new image.
 pub fn images_kept()
-    ensures { (now later : List ℕ) (dirty soiled : ℕ → Bool) → later ≡ now → ((k : ℕ) → dirty k ≡ false → soiled k ≡ false)
+    ensures { (now later : List ℕ) (dirty soiled : ℕ → Bool) → later ≡ now
+        → ((k : ℕ) → dirty k ≡ false → soiled k ≡ false)
         → (image : List ℕ) → IsImage later soiled image → IsImage now dirty image }
 {}
 
 /// A clean area has one image at most: what it reads.
 pub fn clean_image()
-    ensures { (now : List ℕ) (dirty : ℕ → Bool) → IsClean dirty → (image : List ℕ) → IsImage now dirty image → image ≡ now }
+    ensures { (now : List ℕ) (dirty : ℕ → Bool) → IsClean dirty → (image : List ℕ) → IsImage now dirty image
+        → image ≡ now }
 {}
 
 /// An area that reads bytes, as each honest one does, reads as one of its own images.

@@ -1,5 +1,6 @@
 //! An area in memory, which never fails.
-ghost use Rattle.std.specs.Prelude.{◌≡◌, ◌+◌, ◌≤◌, ◌<◌, ◌^◌, ℕ, Bool, true, false, [], length, replicate, slice_index_or, take, drop, Ok, IfOk, OnErr};
+ghost use Rattle.std.specs.Prelude.{◌≡◌, ◌+◌, ◌≤◌, ◌<◌, ◌^◌, ℕ, Bool, true, false, [], length, replicate};
+ghost use Rattle.std.specs.Prelude.{slice_index_or, take, drop, Ok, IfOk, OnErr};
 ghost use Rattle.std.proofs.Common.{rules};
 ghost use Rattle.lc_disk.specs.Area.{IsImage, IsSameOutside, BecomeDirty, IsClean, overlaid};
 ghost use Rattle.lc_disk.specs.Span.{IsSpan};
@@ -24,7 +25,8 @@ pub struct MemArea {
     ghost same_stable: { length stable.items ≡ length bytes.items },
     ghost same_dirty: { length dirty.items ≡ length bytes.items },
     // What is not dirty is stable as it reads.
-    ghost settled: { (k : ℕ) → slice_index_or dirty.items k false ≡ false → slice_index_or stable.items k 0 ≡ slice_index_or bytes.items k 0 },
+    ghost settled: { (k : ℕ) → slice_index_or dirty.items k false ≡ false
+        → slice_index_or stable.items k 0 ≡ slice_index_or bytes.items k 0 },
     ghost spans: { IsSpan span.start span.end (λ k. slice_index_or dirty.items k false) },
     ghost within: { span.end ≤ length bytes.items },
 }

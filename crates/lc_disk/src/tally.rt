@@ -4,7 +4,7 @@ ghost use Rattle.std.specs.Prelude.{◌≡◌, ◌+◌};
 use std::snapshot::Snapshot;
 
 /// How often something was done. The number has no limit, and is never computed: each count knows the one before it,
-/// which takes no bytes. Who writes an area of their own counts its calls with it. This project's own.
+/// which takes no bytes. Who writes an area of their own counts its calls with it.
 #[derive(Drop)]
 pub struct Tally {
     before: Option<Snapshot<Tally>>,

@@ -1,6 +1,6 @@
 //! Which calls of a fuse fail.
 
-/// Which of the calls fail, counted from 1. The number is below 2^64 - 1. This project's own.
+/// Which of the calls fail, counted from 1. The number is below 2^64 - 1.
 #[derive(Clone, Copy)]
 pub enum When {
     /// This call alone; none where it is 0.

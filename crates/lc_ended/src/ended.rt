@@ -1,11 +1,13 @@
 //! The words of the records of the rounds that have ended.
-ghost use Rattle.std.specs.Prelude.{◌≡◌, ◌+◌, ◌-◌, ◌^◌, ◌<◌, ◌≤◌, ◌++◌, [], drop, length, vec_len, vec_capacity, OnOk, OnErr};
+ghost use Rattle.std.specs.Prelude.{◌≡◌, ◌+◌, ◌-◌, ◌^◌, ◌<◌, ◌≤◌, ◌++◌, [], drop, length, vec_len, vec_capacity, OnOk};
+ghost use Rattle.std.specs.Prelude.{OnErr};
 
 use std::alloc::{AllocError, Global};
 use std::marker::Model;
 
-/// The words of the records of the rounds that have ended, of which those in front may have been dropped. What is dropped is moved
-/// out only where it is more than half of the words, so that a word is moved at most once for each that goes.
+/// The words of the records of the rounds that have ended, of which those in front may have been dropped. What is
+/// dropped is moved out only where it is more than half of the words, so that a word is moved at most once for each
+/// that goes.
 #[derive(Drop)]
 pub struct Ended {
     words: Vec<u64>,
@@ -55,8 +57,8 @@ impl Ended {
         &self.words[self.cut..]
     }
 
-    /// Makes room for so many words more. It asks for memory exactly where there is less room, and then for more the more
-    /// there is already.
+    /// Makes room for so many words more. It asks for memory exactly where there is less room, and then for more the
+    /// more there is already.
     ///
     /// # Errors
     ///

@@ -1,5 +1,6 @@
 //! Which records nobody wants any more, and their end.
-ghost use Rattle.std.specs.Prelude.{◌≡◌, ◌+◌, ◌-◌, ◌^◌, ◌<◌, ◌≤◌, ◌++◌, ℕ, List, length, slice_set, true, false, All, IfSome, IsSome, MatchBool};
+ghost use Rattle.std.specs.Prelude.{◌≡◌, ◌+◌, ◌-◌, ◌^◌, ◌<◌, ◌≤◌, ◌++◌, ℕ, List, length, slice_set, true, false, All};
+ghost use Rattle.std.specs.Prelude.{IfSome, IsSome, MatchBool};
 ghost use Rattle.std.specs.List.{list_all};
 ghost use Rattle.lc_log.specs.LogText.{IsWhole, joined};
 ghost use Rattle.lc_record.specs.Record.{IsRecord, spelling};
@@ -47,7 +48,8 @@ fn is_due(applied: &[u64], dropped: &[u64], words: &[u64]) -> bool
 // The words that are as many as the first of them tells; None where they are not there.
 fn first_of(words: &[u64]) -> Option<&[u64]>
     ensures found { (r : Record) (rest : List ℕ) → IsWhole r → words.now ≡ spelling r ++ rest → IsSome result }
-    ensures first { IfSome result (λ first. (r : Record) (rest : List ℕ) → IsWhole r → words.now ≡ spelling r ++ rest → first.now ≡ spelling r) }
+    ensures first { IfSome result (λ first. (r : Record) (rest : List ℕ) → IsWhole r → words.now ≡ spelling r ++ rest
+        → first.now ≡ spelling r) }
     ensures some { IfSome result (λ first. (0 < length first.now) × (length first.now ≤ length words.now)) }
 {
     if words.is_empty() {
@@ -85,11 +87,14 @@ fn set_number(dropped: &mut [u64], lock: Lock)
 impl Ended {
     // Drops the first record, if it is due.
     fn drop_first(&mut self, applied: &[u64], dropped: &mut [u64]) -> bool
-        ensures dropped { (r : Record) (rest : List ℕ) → IsWhole r → self.old.words ≡ spelling r ++ rest → MatchBool result
-            ((is_due applied.now dropped.old r ≡ true) × (self.new.words ≡ rest) × (dropped.new ≡ counted_by r.locks dropped.old))
+        ensures dropped { (r : Record) (rest : List ℕ) → IsWhole r → self.old.words ≡ spelling r ++ rest
+            → MatchBool result
+            ((is_due applied.now dropped.old r ≡ true) × (self.new.words ≡ rest)
+            × (dropped.new ≡ counted_by r.locks dropped.old))
             ((is_due applied.now dropped.old r ≡ false) × (self.new ≡ self.old) × (dropped.new ≡ dropped.old)) }
         ensures stays { result ≡ false → (self.new ≡ self.old) × (dropped.new ≡ dropped.old) }
-        ensures fewer { result ≡ true → (length self.new.words < length self.old.words) × (self.new.gone + length self.new.words ≡ self.old.gone + length self.old.words) }
+        ensures fewer { result ≡ true → (length self.new.words < length self.old.words)
+            × (self.new.gone + length self.new.words ≡ self.old.gone + length self.old.words) }
         ensures room { self.old.room ≤ self.new.room }
         ensures small { self.new.gone + length self.new.words < 2 ^ 64 }
     {
@@ -109,7 +114,8 @@ impl Ended {
     /// then. The segments stand from segment 1 on. Answers how many went. It takes no memory, and over many calls the
     /// time of what is dropped.
     pub fn trim(&mut self, applied: &[u64], dropped: &mut [u64]) -> u64
-        ensures trimmed { (rs : List Record) → All IsWhole rs → self.old.words ≡ joined rs → Trims applied.now dropped.old rs result self.new.words dropped.new }
+        ensures trimmed { (rs : List Record) → All IsWhole rs → self.old.words ≡ joined rs
+            → Trims applied.now dropped.old rs result self.new.words dropped.new }
         ensures place { self.new.gone + length self.new.words ≡ self.old.gone + length self.old.words }
         ensures room { self.old.room ≤ self.new.room }
     {

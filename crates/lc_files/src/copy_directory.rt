@@ -19,8 +19,8 @@ use std::rt::Files;
 // How many bytes are copied at once.
 const PIECE: usize = 4096;
 
-/// A folder in which a store is made that begins as a copy of another one: each file has the bytes of the file of its name there, where
-/// there is one, and then zeros. As of a `Directory`, contracts never see it as honest.
+/// A folder in which a store is made that begins as a copy of another one: each file has the bytes of the file of its
+/// name there, where there is one, and then zeros. As of a `Directory`, contracts never see it as honest.
 pub struct CopyDirectory<'a, R: Files, P: AsPath>
 where
     R::File: OwnedFile,

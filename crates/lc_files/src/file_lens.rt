@@ -20,7 +20,6 @@ const WORD: u64 = 8;
 const SLOTS: u64 = 544;
 
 /// How many bytes each file of a store has, where there is one: `log0` and the next ones, and `seg1` and the next ones.
-/// This project's own.
 #[derive(Clone, Copy)]
 pub struct FileLens {
     pub(crate) logs: [Option<u64>; LOGS],

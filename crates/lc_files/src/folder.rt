@@ -28,8 +28,8 @@ pub enum MakeFault {
     Begun(FolderFault),
 }
 
-/// A folder: what stands under the names of a store in it, and which of these names a stop leaves. While it is `honest` nothing else
-/// changes what is there. Nothing is said of a folder that is not honest.
+/// A folder: what stands under the names of a store in it, and which of these names a stop leaves. While it is `honest`
+/// nothing else changes what is there. Nothing is said of a folder that is not honest.
 pub trait Folder {
     /// What stands under each name, with its bytes.
     ghost files: { Self → Files };
@@ -51,12 +51,16 @@ pub trait Folder {
         ensures honest { honest self.new ≡ honest self.old }
         ensures same { honest self.old ≡ true → files self.new ≡ files self.old };
 
-    /// Makes a file that was not there, and makes its bytes stable. Nothing that stands under its name is opened or followed.
+    /// Makes a file that was not there, and makes its bytes stable. Nothing that stands under its name is opened or
+    /// followed.
     fn make(&mut self, file: NewFile) -> Result<(), MakeFault>
         ensures honest { honest self.new ≡ honest self.old }
-        ensures made { OnOk result (honest self.old ≡ true → Puts (new_name file) (new_bytes file) (files self.old) (files self.new)) }
-        ensures fault { OnErr result (honest self.old ≡ true → ChangesAt (new_name file) (files self.old) (files self.new)) }
-        ensures exists { result ≡ Err MakeFault.Exists → honest self.old ≡ true → (files self.new ≡ files self.old) × (files self.old (new_name file) ≢ None) };
+        ensures made { OnOk result (honest self.old ≡ true
+            → Puts (new_name file) (new_bytes file) (files self.old) (files self.new)) }
+        ensures fault { OnErr result (honest self.old ≡ true
+            → ChangesAt (new_name file) (files self.old) (files self.new)) }
+        ensures exists { result ≡ Err MakeFault.Exists → honest self.old ≡ true
+            → (files self.new ≡ files self.old) × (files self.old (new_name file) ≢ None) };
 
     /// Takes away what stands under a name, if anything does. Only a file is taken away, or a link.
     fn remove(&mut self, name: StoreName) -> Result<(), FolderFault>
@@ -68,7 +72,8 @@ pub trait Folder {
     fn copy(&mut self, name: FileName) -> Result<(), FolderFault>
         ensures honest { honest self.new ≡ honest self.old }
         ensures copied { OnOk result (honest self.old ≡ true → Copies name (files self.old) (files self.new)) }
-        ensures fault { OnErr result (honest self.old ≡ true → ChangesAt (CopyOf name) (files self.old) (files self.new)) };
+        ensures fault { OnErr result (honest self.old ≡ true
+            → ChangesAt (CopyOf name) (files self.old) (files self.new)) };
 
     /// Puts the copy of a file in the file's place.
     fn replace(&mut self, name: FileName) -> Result<(), FolderFault>
@@ -80,5 +85,6 @@ pub trait Folder {
     fn sync(&mut self) -> Result<(), FolderFault>
         ensures honest { honest self.new ≡ honest self.old }
         ensures same { honest self.old ≡ true → files self.new ≡ files self.old }
-        ensures stable { OnOk result (honest self.old ≡ true → (name : Name) → stable self.new name ≡ is_some (files self.new name)) };
+        ensures stable { OnOk result (honest self.old ≡ true → (name : Name)
+            → stable self.new name ≡ is_some (files self.new name)) };
 }

@@ -1,5 +1,5 @@
-//! The files of a store in a folder: a store is of the size that its own file says, a new one is made whole or not at all, and
-//! copies change no file's bytes.
+//! The files of a store in a folder: a store is of the size that its own file says, a new one is made whole or not at
+//! all, and copies change no file's bytes.
 #![tactic(auto)]
 
 mod copy_directory;

@@ -28,8 +28,9 @@ impl fmt::Display for LockHolder {
     }
 }
 
-/// The process that has a lock of this file, by the system's list: the first one that is there. A child may hold the lock that a process
-/// took which is there no more, and one of another machine or of another space of numbers has none here.
+/// The process that has a lock of this file, by the system's list: the first one that is there. A child may hold the
+/// lock that a process took which is there no more, and one of another machine or of another space of numbers has none
+/// here.
 pub(crate) fn lock_holder<R: Files>(
     alloc: Global,
     rt: &R,

@@ -1,5 +1,6 @@
 //! The making of a store's files.
-ghost use Rattle.std.specs.Prelude.{◌≡◌, ◌≢◌, ◌≤◌, ◌<◌, ℕ, true, false, Bool, Some, None, IfErr, IfOk, IfSome, IfNone, IsTrue, OnOk, OnErr, MatchOption};
+ghost use Rattle.std.specs.Prelude.{◌≡◌, ◌≢◌, ◌≤◌, ◌<◌, ℕ, true, false, Bool, Some, None, IfErr, IfOk, IfSome, IfNone};
+ghost use Rattle.std.specs.Prelude.{IsTrue, OnOk, OnErr, MatchOption};
 ghost use Rattle.lc_files.specs.Files.{store_name_at};
 ghost use Rattle.lc_files.specs.Making.{Inits, IsOther, IsTaken, NoneTaken, new_count, new_name_at};
 ghost use Rattle.lc_files.specs.declared.store_name.StoreName.{StoreName as Name};
@@ -25,10 +26,12 @@ pub struct Unmade {
     pub is_left: bool,
 }
 
-/// Makes the files of a new store in a folder, unless something stands under a name that some store gives there: that is looked at of
-/// all names before the first file is made, and then the folder is held. What was made before a fault is taken away again.
+/// Makes the files of a new store in a folder, unless something stands under a name that some store gives there: that
+/// is looked at of all names before the first file is made, and then the folder is held. What was made before a fault
+/// is taken away again.
 pub fn make_store<F: Folder>(folder: &mut F, geometry: &Geometry) -> Result<(), Unmade>
-    ensures inits { F.honest folder.old ≡ true → Inits geometry.now (F.files folder.old) (F.files folder.new) (F.stable folder.new) result }
+    ensures inits { F.honest folder.old ≡ true
+        → Inits geometry.now (F.files folder.old) (F.files folder.new) (F.stable folder.new) result }
 {
     match first_taken(folder) {
         Ok(None) => make_held(folder, geometry),
@@ -51,7 +54,8 @@ fn nothing_left(cause: Cause) -> Unmade
 fn first_taken<F: Folder>(folder: &mut F) -> Result<Option<StoreName>, FolderFault>
     ensures honest { F.honest folder.new ≡ F.honest folder.old }
     ensures same { F.honest folder.old ≡ true → F.files folder.new ≡ F.files folder.old }
-    ensures told { IfOk result (λ found. F.honest folder.old ≡ true → MatchOption found (NoneTaken (F.files folder.old)) (λ name. IsTaken name (F.files folder.old))) }
+    ensures told { IfOk result (λ found. F.honest folder.old ≡ true
+        → MatchOption found (NoneTaken (F.files folder.old)) (λ name. IsTaken name (F.files folder.old))) }
 {
     let mut place = 0;
     while let Some(name) = StoreName::at(place) {
@@ -65,7 +69,8 @@ fn first_taken<F: Folder>(folder: &mut F) -> Result<Option<StoreName>, FolderFau
 
 // Holds the folder, and makes the files, where no name is taken.
 fn make_held<F: Folder>(folder: &mut F, geometry: &Geometry) -> Result<(), Unmade>
-    ensures inits { F.honest folder.old ≡ true → NoneTaken (F.files folder.old) → Inits geometry.now (F.files folder.old) (F.files folder.new) (F.stable folder.new) result }
+    ensures inits { F.honest folder.old ≡ true → NoneTaken (F.files folder.old)
+        → Inits geometry.now (F.files folder.old) (F.files folder.new) (F.stable folder.new) result }
 {
     match folder.hold() {
         Ok(()) => make_all(folder, geometry),
@@ -75,7 +80,8 @@ fn make_held<F: Folder>(folder: &mut F, geometry: &Geometry) -> Result<(), Unmad
 
 // Makes each file in turn, and then their names stable.
 fn make_all<F: Folder>(folder: &mut F, geometry: &Geometry) -> Result<(), Unmade>
-    ensures inits { F.honest folder.old ≡ true → NoneTaken (F.files folder.old) → Inits geometry.now (F.files folder.old) (F.files folder.new) (F.stable folder.new) result }
+    ensures inits { F.honest folder.old ≡ true → NoneTaken (F.files folder.old)
+        → Inits geometry.now (F.files folder.old) (F.files folder.new) (F.stable folder.new) result }
 {
     let mut place = 0;
     while let Some(file) = NewFile::at(geometry, place) {
@@ -100,8 +106,10 @@ fn make_all<F: Folder>(folder: &mut F, geometry: &Geometry) -> Result<(), Unmade
 fn taken_away<F: Folder>(folder: &mut F, geometry: &Geometry, count: usize, cause: Cause) -> Unmade
     requires { count ≤ new_count geometry.now }
     ensures cause { result.cause ≡ cause }
-    ensures others { F.honest folder.old ≡ true → (other : Name) → IsOther geometry.now count other → F.files folder.new other ≡ F.files folder.old other }
-    ensures gone { F.honest folder.old ≡ true → result.is_left ≡ false → (place : ℕ) → place < count → F.files folder.new (new_name_at geometry.now place) ≡ None }
+    ensures others { F.honest folder.old ≡ true → (other : Name) → IsOther geometry.now count other
+        → F.files folder.new other ≡ F.files folder.old other }
+    ensures gone { F.honest folder.old ≡ true → result.is_left ≡ false → (place : ℕ) → place < count
+        → F.files folder.new (new_name_at geometry.now place) ≡ None }
 {
     let mut is_left = false;
     let mut left = count;

@@ -36,8 +36,8 @@ pub struct OpenStore<F: FolderRef>
 where
     <F::Runtime as Files>::File: HeldFile,
 {
-    /// The areas of its files, in the order of the store; where the folder has more files of a store, the first of those is one
-    /// area more. No other process has a file of these open until its area is dropped.
+    /// The areas of its files, in the order of the store; where the folder has more files of a store, the first of
+    /// those is one area more. No other process has a file of these open until its area is dropped.
     pub areas: Vec<StoreArea<F>>,
     /// The folder, locked until this is dropped.
     pub guard: <F::Runtime as Files>::File,
@@ -110,23 +110,25 @@ where
         Ok(())
     }
 
-    /// Opens the store of this size that is in the folder, for this process alone: no other opens the folder or one of the files, under
-    /// whatever name, while the guard and the areas are kept. The names in the folder are stable, and so is the file of the size.
+    /// Opens the store of this size that is in the folder, for this process alone: no other opens the folder or one of
+    /// the files, under whatever name, while the guard and the areas are kept. The names in the folder are stable, and
+    /// so is the file of the size.
     ///
-    /// A name of a store's file above those of the geometry (up to `log7` and `seg16`) that is taken is one area more than the
-    /// geometry has, so that a store is not run with fewer nodes or segments than it has. Where a fault has left its mark,
-    /// each file is copied and the copy put in its place, so that only what is on the device is read; where the areas are not
-    /// those of the geometry nothing is copied.
+    /// A name of a store's file above those of the geometry (up to `log7` and `seg16`) that is taken is one area more
+    /// than the geometry has. So a store is not run with fewer nodes or segments than it has. Where a fault has left
+    /// its mark, each file is copied and the copy put in its place, so that only what is on the device is read; where
+    /// the areas are not those of the geometry nothing is copied.
     ///
     /// # Errors
     ///
-    /// `OtherSize` where all areas are those of the geometry, and the file of the size says another. `Failed` where another process has
-    /// the store open, or the system refused something; `fault` says what, and why.
+    /// `OtherSize` where all areas are those of the geometry, and the file of the size says another. `Failed` where
+    /// another process has the store open, or the system refused something; `fault` says what, and why.
     pub fn open(&self, geometry: &Geometry) -> Result<OpenStore<&StoreFolder<R, P>>, Unopened> {
         open_at(&self, geometry)
     }
 
-    // Syncs the folder, or the file of the size. A sync that fails leaves the mark: the system does not tell of it again.
+    // Syncs the folder, or the file of the size. A sync that fails leaves the mark: the system does not tell of it
+    // again.
     fn make_stable(&self, place: FaultPlace, file: &R::File) -> Result<(), FolderFault> {
         let synced = file.sync_all();
         if synced.is_err() {
@@ -138,7 +140,8 @@ where
         self.noted(place, synced)
     }
 
-    // Notes why the areas are not those of a store of this size: it is another than the store's own file says, or a file does not fit.
+    // Notes why the areas are not those of a store of this size: it is another than the store's own file says, or a
+    // file does not fit.
     fn note_misfit(&self, geometry: &Geometry, beyond: Option<FileName>) {
         if agrees(self.alloc, self, geometry).is_err() {
             return;

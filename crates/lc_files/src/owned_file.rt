@@ -5,7 +5,7 @@ use std::io;
 use std::os::fd::AsFd;
 use std::os::unix::fs::fchown;
 
-/// An open file that can be given to an owner. This project's own.
+/// An open file that can be given to an owner.
 pub trait OwnedFile: HeldFile {
     /// Gives the open file to this user and this group, whatever stands under its name now.
     fn give_to(&self, user: u32, group: u32) -> io::Result<()>;

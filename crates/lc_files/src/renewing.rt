@@ -11,8 +11,8 @@ use crate::store_file::StoreFile;
 use crate::store_name::StoreName;
 use lc_record::Geometry;
 
-/// Puts a stable copy in the place of each file of a store, makes the names stable, and takes the mark of a fault away. What is left
-/// of an earlier copy is taken away first, and each copy is made of a file that was not there.
+/// Puts a stable copy in the place of each file of a store, makes the names stable, and takes the mark of a fault away.
+/// What is left of an earlier copy is taken away first, and each copy is made of a file that was not there.
 ///
 /// So what the system has of a file in its memory alone is then on the device, or it was lost and is read as such. A
 /// page that could not be written is called clean by the system, and is not written again where it stands.

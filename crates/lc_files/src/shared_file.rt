@@ -2,10 +2,10 @@
 use crate::owned_file::OwnedFile;
 use std::fs::{File, TryLockError};
 
-/// An open file whose lock several openings can have together. This project's own.
+/// An open file whose lock several openings can have together.
 pub trait SharedFile: OwnedFile {
-    /// Takes the file's lock beside others that take it so, until it is closed. It does not wait: where another opening has
-    /// the lock for itself alone it answers `WouldBlock`.
+    /// Takes the file's lock beside others that take it so, until it is closed. It does not wait: where another opening
+    /// has the lock for itself alone it answers `WouldBlock`.
     fn try_lock_shared(&self) -> Result<(), TryLockError>;
 }
 

@@ -6,8 +6,8 @@ use crate::file_lens::FileLens;
 use crate::folder::FolderFault;
 use lc_record::Geometry;
 
-/// What tells the size of a store in a folder: the file that says it, and how long the other files are. Nothing is said of one that
-/// is not `honest`.
+/// What tells the size of a store in a folder: the file that says it, and how long the other files are. Nothing is said
+/// of one that is not `honest`.
 pub trait SizeSource {
     /// The bytes of the file that says the size, where there is one.
     ghost stated: { Self → Option (List ℕ) };
@@ -23,7 +23,8 @@ pub trait SizeSource {
 
     /// The bytes of the file that says the size, where there is one.
     fn stated(&self) -> Result<Option<Vec<u8>>, FolderFault>
-        ensures { IfOk result (λ found. honest self.now ≡ true → option_map (λ bytes. bytes.items) found ≡ stated self.now) };
+        ensures { IfOk result (λ found. honest self.now ≡ true
+            → option_map (λ bytes. bytes.items) found ≡ stated self.now) };
 
     /// How long the other files are.
     fn file_lens(&self) -> Result<FileLens, FolderFault>

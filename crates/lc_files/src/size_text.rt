@@ -7,8 +7,8 @@ use lc_record::Geometry;
 use std::alloc::{AllocError, Global};
 use std::fmt;
 
-/// The lines that say how large a store is, as they are printed: the format, nodes, segments, pages of a segment, and words of a log.
-/// This project's own.
+/// The lines that say how large a store is, as they are printed: the format, nodes, segments, pages of a segment, and
+/// words of a log. This project's own.
 #[derive(Drop)]
 pub(crate) struct SizeText {
     pub(crate) geometry: Geometry,

@@ -29,8 +29,8 @@ pub enum SizeFault {
 pub enum Unopened {
     /// The folder or one of its files could not be opened, or another process has the store.
     Folder(FolderFault),
-    /// The file of the size says another one: this is the first area at which the files of the two differ, or at which one of them has
-    /// no more.
+    /// The file of the size says another one: this is the first area at which the files of the two differ, or at which
+    /// one of them has no more.
     OtherSize { area: u32 },
 }
 
@@ -44,10 +44,11 @@ impl From<FolderFault> for Unopened {
     }
 }
 
-/// The size of the store in a folder, with one thread a node: what the file of the size says, or, where there is none, what the lengths
-/// of the other files tell.
+/// The size of the store in a folder, with one thread a node: what the file of the size says, or, where there is none,
+/// what the lengths of the other files tell.
 pub fn size_found<F: SizeSource>(alloc: Global, folder: &F) -> Result<Geometry, SizeFault>
-    ensures found { IfOk result (λ g. F.honest folder.now ≡ true → IsSizeOf (F.stated folder.now) (F.logs folder.now) (F.segments folder.now) g) }
+    ensures found { IfOk result (λ g. F.honest folder.now ≡ true
+        → IsSizeOf (F.stated folder.now) (F.logs folder.now) (F.segments folder.now) g) }
     ensures misfit { IfErr result (λ fault. (its : TheMisfit) → fault ≡ HasMisfit its → F.honest folder.now ≡ true
         → (F.stated folder.now ≡ None) × IsMisfit (F.logs folder.now) (F.segments folder.now) its) }
 {
@@ -78,7 +79,8 @@ fn size_told<F: SizeSource>(folder: &F) -> Result<Geometry, SizeFault>
 // What the file of the size says, where there is one.
 fn size_stated<F: SizeSource>(alloc: Global, folder: &F) -> Result<Option<Geometry>, FolderFault>
     ensures none { IfOk result (λ said. said ≡ None → F.honest folder.now ≡ true → F.stated folder.now ≡ None) }
-    ensures said { IfOk result (λ said. (g : Sizes) → said ≡ Some g → F.honest folder.now ≡ true → F.stated folder.now ≡ Some (size_file_text g)) }
+    ensures said { IfOk result (λ said. (g : Sizes) → said ≡ Some g → F.honest folder.now ≡ true
+        → F.stated folder.now ≡ Some (size_file_text g)) }
     ensures threads { IfOk result (λ said. (g : Sizes) → said ≡ Some g → g.threads ≡ 1) }
 {
     match folder.stated()? {
@@ -97,7 +99,8 @@ fn size_stated<F: SizeSource>(alloc: Global, folder: &F) -> Result<Option<Geomet
 /// `OtherSize` exactly where it says another size; `Folder` where it could not be read, or says none.
 pub fn agrees<F: SizeSource>(alloc: Global, folder: &F, geometry: &Geometry) -> Result<(), Unopened>
     ensures agrees { OnOk result (F.honest folder.now ≡ true → Agrees (F.stated folder.now) geometry.now) }
-    ensures other { IfErr result (λ fault. (area : ℕ) → fault ≡ Unopened.OtherSize area → F.honest folder.now ≡ true → SaysOther (F.stated folder.now) geometry.now area) }
+    ensures other { IfErr result (λ fault. (area : ℕ) → fault ≡ Unopened.OtherSize area → F.honest folder.now ≡ true
+        → SaysOther (F.stated folder.now) geometry.now area) }
 {
     let Some(stated) = size_stated(alloc, folder)? else {
         return Ok(());

@@ -26,8 +26,8 @@ const LONGEST_SIZE_FILE: u64 = 128;
 /// A folder with a path of its own that has several owners.
 pub type SharedFolder<R> = Arc<StoreFolder<R, String>, Global>;
 
-/// The folder of a store, by its path, with what went wrong in it: a fault that is answered does not say why. Threads may share
-/// it, and areas of its files that note their faults in it. This project's own.
+/// The folder of a store, by its path, with what went wrong in it: a fault that is answered does not say why. Threads
+/// may share it, and areas of its files that note their faults in it.
 #[derive(Drop)]
 pub struct StoreFolder<R, P> {
     pub(crate) alloc: Global,
@@ -131,8 +131,8 @@ impl<R, P: AsPath> StoreFolder<R, P> {
         })
     }
 
-    /// Says on standard error what failed first, that no mark of it could be made, and of the store's size that it is another than was
-    /// asked for, or that no file says it.
+    /// Says on standard error what failed first, that no mark of it could be made, and of the store's size that it is
+    /// another than was asked for, or that no file says it.
     pub fn tell(&self)
     where
         R: Eprint,
@@ -330,8 +330,8 @@ where
         }
     }
 
-    // A file of the store, open to be copied, with its length, which no other process can open so until this is closed. Some systems
-    // want a file that is locked so to be open for writing.
+    // A file of the store, open to be copied, with its length, which no other process can open so until this is closed.
+    // Some systems want a file that is locked so to be open for writing.
     pub(crate) fn open_to_copy(&self, name: FileName) -> io::Result<(R::File, u64)> {
         let mut options = OpenOptions::new();
         let (file, len) = self.open_file(name, options.read(true).write(true))?;
@@ -404,7 +404,8 @@ where
         self.note(place, Error::new(ErrorKind::InvalidData, why));
     }
 
-    // Makes the names in it stable, and then its own name. That the folder which it stands in cannot be synced is noted alone.
+    // Makes the names in it stable, and then its own name. That the folder which it stands in cannot be synced is noted
+    // alone.
     pub(crate) fn sync(&self) -> io::Result<()> {
         self.opened()?.sync_all()?;
         match self.sync_parent() {

@@ -12,7 +12,7 @@ const FILES: usize = MAX_NODE as usize + 1 + MAX_SEGMENT as usize;
 // The names in front of those of files: of the size, and of the mark.
 const FRONT: usize = 2;
 
-/// A name that a store gives in its folder. It prints as the name. This project's own.
+/// A name that a store gives in its folder. It prints as the name.
 #[derive(Clone, Copy, PartialEq, Eq)]
 pub enum StoreName {
     /// `lcrvm.store`, the file that says the store's size.

@@ -6,8 +6,8 @@ use crate::pass_view::{Roles, Total};
 use crate::{RecvEnd, Rest, SendEnd};
 use std::sync::Wait;
 
-/// Ends the sending on a line: what was taken is what was sent first, and the rest, at most `ROOM` messages, can still be
-/// taken.
+/// Ends the sending on a line: what was taken is what was sent first, and the rest, at most `ROOM` messages, can still
+/// be taken.
 pub fn close_line<T: Drop>(to: SendEnd<T>, from: RecvEnd<T>) -> Rest<T>
     requires line { line_from from ≡ line_to to }
     ensures rest { sent_on to ≡ taken_from from ++ rest_of result }
@@ -23,7 +23,8 @@ pub fn close_line<T: Drop>(to: SendEnd<T>, from: RecvEnd<T>) -> Rest<T>
 impl<T: Drop> Rest<T> {
     /// Takes the first message of the rest; `None` exactly where none is left.
     pub fn take<R: Wait>(&mut self, rt: &R) -> Option<T>
-        ensures { MatchOption result ((rest_of self.old ≡ []) × (rest_of self.new ≡ [])) (λ message. rest_of self.old ≡ message ∷ rest_of self.new) }
+        ensures { MatchOption result ((rest_of self.old ≡ []) × (rest_of self.new ≡ [])) (λ message. rest_of self.old
+            ≡ message ∷ rest_of self.new) }
     {
         self.from.try_recv_as::<Total, R>(rt, &mut self.pass).ok()
     }

@@ -6,8 +6,8 @@ ghost use Rattle.crossbeam_channel.specs.Ends.{sends_on, receives_on, ruled_capa
 use crate::pass_view::{InOrder, PassView};
 use crossbeam_channel::{Pass, RuledReceiver, RuledSender};
 
-/// The sending end of a line, which knows what was sent on it (`sent_on`). There is one of each line. What is known takes no
-/// memory. This project's own.
+/// The sending end of a line, which knows what was sent on it (`sent_on`). There is one of each line. What is known
+/// takes no memory. This project's own.
 #[derive(Drop)]
 pub struct SendEnd<T: Drop> {
     pub(crate) to: RuledSender<T, PassView<T>, InOrder>,
@@ -26,8 +26,8 @@ pub struct RecvEnd<T: Drop> {
     ghost takes: { (view pass).takes ≡ true },
 }
 
-/// A line on which nothing more is sent, with what is still to be taken from it (`rest_of`). Messages that are left in it are
-/// dropped with it.
+/// A line on which nothing more is sent, with what is still to be taken from it (`rest_of`). Messages that are left in
+/// it are dropped with it.
 #[derive(Drop)]
 pub struct Rest<T: Drop> {
     pub(crate) from: RuledReceiver<T, PassView<T>, InOrder>,

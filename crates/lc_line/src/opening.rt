@@ -10,8 +10,8 @@ use std::alloc::{AllocError, Global};
 /// How many messages may be on their way on a line.
 pub const ROOM: usize = 64;
 
-/// A line on which nothing was sent. All the memory that it will ever ask for is asked for here, and it fails only where there
-/// is none.
+/// A line on which nothing was sent. All the memory that it will ever ask for is asked for here, and it fails only
+/// where there is none.
 pub fn open_line<T: Drop>(alloc: Global) -> Result<(SendEnd<T>, RecvEnd<T>), AllocError>
     ensures line { IfOk result (λ ends. line_from ends.1 ≡ line_to ends.0) }
     ensures sent { IfOk result (λ ends. sent_on ends.0 ≡ []) }

@@ -2,8 +2,8 @@
 use crossbeam_channel::protocol::{Join, Lesson, Outcome, Protocol, Split};
 use std::collections::LinkedList;
 
-/// What a pass may do and what it knows: one that may send has all that was sent, one that may take has all that was taken,
-/// oldest first. No value of it is made.
+/// What a pass may do and what it knows: one that may send has all that was sent, one that may take has all that was
+/// taken, oldest first. No value of it is made.
 pub struct PassView<T> {
     pub sends: bool,
     pub takes: bool,

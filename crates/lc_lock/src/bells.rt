@@ -1,6 +1,6 @@
-//! The bells of a lock, at which those sleep who wait long: words beside that of the tickets. A bell's low bit says that somebody may
-//! sleep at it, and above that it counts how often it rang. While a ticket waits its bell rings for tickets before it alone, far too
-//! seldom to come round to what it was.
+//! The bells of a lock, at which those sleep who wait long: words beside that of the tickets. A bell's low bit says
+//! that somebody may sleep at it, and above that it counts how often it rang. While a ticket waits its bell rings for
+//! tickets before it alone, far too seldom to come round to what it was.
 ghost use Rattle.std.specs.Prelude.{◌≡◌, ◌+◌, ◌%◌, ◌^◌, ◌↔◌, ◌∷◌, IsTrue, replicate};
 ghost use Rattle.lc_lock.specs.TicketQueue.{word_of};
 ghost use Rattle.lc_lock.specs.Bells.{IsAwaited, IsBell, awaited, bell_at};

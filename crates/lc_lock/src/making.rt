@@ -10,8 +10,8 @@ use atomic_table::Table;
 use std::alloc::{AllocError, Global};
 
 impl<T: Keyed<K>, K> TicketLock<T, K> {
-    /// A lock whose maker holds it, for a value that comes later, by `unlock`: until then whoever locks it waits. All the
-    /// memory that the lock will ever ask for is asked for here, and it fails only where there is none.
+    /// A lock whose maker holds it, for a value that comes later, by `unlock`: until then whoever locks it waits. All
+    /// the memory that the lock will ever ask for is asked for here, and it fails only where there is none.
     pub fn vacant(alloc: Global, key: &K) -> Result<(TicketLock<T, K>, Loan<T, K>), AllocError>
         ensures key { IfOk result (λ made. key_of made.0 ≡ key.now) }
         ensures loan { IfOk result (λ made. IsLoanOf made.0 made.1) }

@@ -1,7 +1,7 @@
 //! How a thread sleeps until a bell rings, and how a bell is rung.
 //!
-//! Who sleeps sets the bit of its bell first and looks at the tickets then. Who rings serves the ticket first and looks at the bell
-//! then. So either the one sees that its ticket is served, or the other sees the bit.
+//! Who sleeps sets the bit of its bell first and looks at the tickets then. Who rings serves the ticket first and looks
+//! at the bell then. So either the one sees that its ticket is served, or the other sees the bit.
 ghost use Rattle.std.specs.Prelude.{◌≡◌, ◌%◌, IsTrue, IsFalse};
 ghost use Rattle.lc_lock.specs.TicketQueue.{IsServed, IsWaiting};
 ghost use Rattle.lc_lock.specs.Bells.{IsAwaited, IsBell};
@@ -14,8 +14,8 @@ use crate::{Keyed, TicketLock};
 use std::sync::Wait;
 
 impl<T: Keyed<K>, K> TicketLock<T, K> {
-    // Sleeps until the bell of the seat's ticket rings, or for no reason less long. Where the ticket is served before that it takes
-    // the slot, and answers that it has.
+    // Sleeps until the bell of the seat's ticket rings, or for no reason less long. Where the ticket is served before
+    // that it takes the slot, and answers that it has.
     pub(crate) fn sleep<R: Wait>(&self, rt: &R, seat: &mut QueueSeat<T, K>, ticket: u32) -> bool
         requires own { seat.old.table_id ≡ self.now.table.shared.table_id }
         requires waits { IsWaiting (key_of self.now) ticket seat.old.me }

@@ -14,9 +14,9 @@ use std::sync::Wait;
 use std::{hint, thread};
 
 impl<T: Keyed<K>, K> TicketLock<T, K> {
-    /// Waits until all who drew a ticket before have had the value and have given one back, and takes it. Who has the value and
-    /// locks again waits for ever. It takes no memory. At most 2^32 - 1 tickets are out at a time: who comes then draws one
-    /// once another is served.
+    /// Waits until all who drew a ticket before have had the value and have given one back, and takes it. Who has the
+    /// value and locks again waits for ever. It takes no memory. At most 2^32 - 1 tickets are out at a time: who comes
+    /// then draws one once another is served.
     pub fn lock<R: Wait>(&self, rt: &R) -> (T, Loan<T, K>)
         ensures fits { T.fits (key_of self.now) result.0 }
         ensures loan { IsLoanOf self.now result.1 }
@@ -29,8 +29,8 @@ impl<T: Keyed<K>, K> TicketLock<T, K> {
         (value, Loan { seat, ticket })
     }
 
-    /// Gives a value back, which need not be the one that was lent, and serves the next ticket. It never waits, and takes
-    /// no memory.
+    /// Gives a value back, which need not be the one that was lent, and serves the next ticket. It never waits, and
+    /// takes no memory.
     pub fn unlock(&self, value: T, loan: Loan<T, K>)
         requires fits { T.fits (key_of self.now) value }
         requires loan { IsLoanOf self.now loan }
@@ -42,13 +42,14 @@ impl<T: Keyed<K>, K> TicketLock<T, K> {
         }
     }
 
-    /// How many tickets are out at the moment of one load: that of the holder, and those of all who wait. It is a number to
-    /// look at: nothing is said of it, since others draw and serve meanwhile.
+    /// How many tickets are out at the moment of one load: that of the holder, and those of all who wait. It is a
+    /// number to look at: nothing is said of it, since others draw and serve meanwhile.
     pub fn tickets_out(&self) -> u32 {
         out_in(self.table.shared.peek(WORD))
     }
 
-    // A new seat with the next ticket. A plain addition could not be refused where all tickets are out, so it exchanges.
+    // A new seat with the next ticket. A plain addition could not be refused where all tickets are out, so it
+    // exchanges.
     fn draw<R: Wait>(&self, rt: &R) -> (QueueSeat<T, K>, u32)
         ensures own { result.0.table_id ≡ self.now.table.shared.table_id }
         ensures waits { IsWaiting (key_of self.now) result.1 result.0.me }
@@ -101,8 +102,8 @@ impl<T: Keyed<K>, K> TicketLock<T, K> {
         unreachable!()
     }
 
-    // Looks once whether the seat's ticket is served, and takes the slot where it is. Else it answers how many tickets are served
-    // before.
+    // Looks once whether the seat's ticket is served, and takes the slot where it is. Else it answers how many tickets
+    // are served before.
     pub(crate) fn look(&self, seat: &mut QueueSeat<T, K>, ticket: u32) -> Option<u32>
         requires own { seat.old.table_id ≡ self.now.table.shared.table_id }
         requires waits { IsWaiting (key_of self.now) ticket seat.old.me }
@@ -118,8 +119,8 @@ impl<T: Keyed<K>, K> TicketLock<T, K> {
         Some(ahead_of(ticket, served))
     }
 
-    // Puts the value into the slot, which is empty, and serves the next ticket. It answers the word as it was before, in which
-    // this ticket is the one that is served.
+    // Puts the value into the slot, which is empty, and serves the next ticket. It answers the word as it was before,
+    // in which this ticket is the one that is served.
     fn give_back(&self, seat: &mut QueueSeat<T, K>, ticket: u32, value: T) -> u64
         requires own { seat.old.table_id ≡ self.now.table.shared.table_id }
         requires holds { seat.old ≡ holding seat.old }

@@ -53,7 +53,8 @@ pub(crate) fn has_waiters(found: u64, ticket: u32) -> bool
 
 // What serves the next ticket where it is added to the word, which wraps at 2^64.
 pub(crate) fn to_next(served: u32) -> u64
-    ensures { (next : ℕ) → next < 2 ^ 32 → (next * 2 ^ 32 + served + result) % 2 ^ 64 ≡ next * 2 ^ 32 + (served + 1) % 2 ^ 32 }
+    ensures { (next : ℕ) → next < 2 ^ 32
+        → (next * 2 ^ 32 + served + result) % 2 ^ 64 ≡ next * 2 ^ 32 + (served + 1) % 2 ^ 32 }
 {
     if served == u32::MAX {
         SERVED.wrapping_sub(DRAWN)

@@ -3,8 +3,8 @@ use crate::Keyed;
 use atomic_table::{Seat, Table, TableRule};
 use std::alloc::Global;
 
-/// Where a seat stands. Its ticket is the number of those drawn before, without an end; the lock's word has the low 32 bits.
-/// No value of it is made.
+/// Where a seat stands. Its ticket is the number of those drawn before, without an end; the lock's word has the low 32
+/// bits. No value of it is made.
 pub enum TicketState {
     /// It has no ticket.
     Idle,
@@ -20,8 +20,8 @@ pub struct LockView<K> {
     pub turn: TicketState,
 }
 
-/// The first word counts the tickets that were drawn and those that were served, and the one slot has the value until the seat
-/// whose ticket is served takes it. The other words are bells, of which nothing is known.
+/// The first word counts the tickets that were drawn and those that were served, and the one slot has the value until
+/// the seat whose ticket is served takes it. The other words are bells, of which nothing is known.
 pub struct TicketQueue;
 
 impl<T: Keyed<K>, K> TableRule<Option<T>, LockView<K>, K> for TicketQueue {

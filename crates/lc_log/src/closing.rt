@@ -1,11 +1,12 @@
 //! A log whose first gate was closed.
-ghost use Rattle.std.specs.Prelude.{◌≡◌, ◌≢◌, ℕ, ◌+◌, ◌<◌, ◌≤◌, ◌^◌, List, [], ◌∷◌, true, false, length, IfOk, IfErr, if◌then◌else◌, MatchResult};
+ghost use Rattle.std.specs.Prelude.{◌≡◌, ◌≢◌, ℕ, ◌+◌, ◌<◌, ◌≤◌, ◌^◌, List, [], ◌∷◌, true, false, length, IfOk, IfErr};
+ghost use Rattle.std.specs.Prelude.{if◌then◌else◌, MatchResult};
 
 use crate::first_gate::{close_first_gate, settle_first_gate};
 use crate::{Failed, Idle};
 use lc_disk::Area;
 
-/// A log with a closed first gate, which may be torn. This project's own.
+/// A log with a closed first gate, which may be torn.
 #[derive(Drop)]
 pub struct Closing<D: Area> {
     /// The log's area.
@@ -17,7 +18,8 @@ pub struct Closing<D: Area> {
 impl<D: Area> Closing<D> {
     ghost use Rattle.lc_record.specs.declared.record.Record.{Record};
     ghost use Rattle.lc_log.specs.LogText.{IsLogText};
-    ghost use Rattle.lc_log.specs.NodeLog.{IsClosing, IsIdle, IsUntouched, IsWithOrWithout, Holds, GateReads, LeavesOnly, Wrote, MadeStable, Continues};
+    ghost use Rattle.lc_log.specs.NodeLog.{IsClosing, IsIdle, IsUntouched, IsWithOrWithout, Holds, GateReads};
+    ghost use Rattle.lc_log.specs.NodeLog.{LeavesOnly, Wrote, MadeStable, Continues};
     ghost use Rattle.lc_log.specs.OneCall.{IsOneCall};
 
     /// Closes the first gate of an area where it reads open, as the caller has read it; else the call is made with no
@@ -45,7 +47,8 @@ impl<D: Area> Closing<D> {
         ensures failed_untouched { IfErr result (λ failed. is_open ≡ false → IsUntouched D.Area failed.area area) }
         ensures failed_device { IfErr result (λ failed. Continues D.Area area failed.area) }
         ensures cause { IfErr result (λ failed. D.failures failed.area ≡ D.failures area + 1) }
-        ensures call { MatchResult result (λ log. IsOneCall D.Area true area log.area) (λ failed. IsOneCall D.Area false area failed.area) }
+        ensures call { MatchResult result (λ log. IsOneCall D.Area true area log.area) (λ failed.
+            IsOneCall D.Area false area failed.area) }
     {
         let mut area = area;
         match close_first_gate(&mut area, is_open) {
@@ -77,7 +80,8 @@ impl<D: Area> Closing<D> {
 
         ensures failed_device { IfErr result (λ failed. Continues D.Area self.area failed.area) }
         ensures cause { IfErr result (λ failed. D.failures failed.area ≡ D.failures self.area + 1) }
-        ensures call { MatchResult result (λ log. IsOneCall D.Area true self.area log.area) (λ failed. IsOneCall D.Area false self.area failed.area) }
+        ensures call { MatchResult result (λ log. IsOneCall D.Area true self.area log.area) (λ failed.
+            IsOneCall D.Area false self.area failed.area) }
     {
         let Closing { mut area } = self;
         match settle_first_gate(&mut area) {

@@ -1,9 +1,11 @@
 //! The first gate of a log, where its area stays with the caller.
-ghost use Rattle.std.specs.Prelude.{◌≡◌, ℕ, ◌+◌, ◌<◌, ◌≤◌, ◌↔◌, IsTrue, List, [], ◌∷◌, false, length, slice_index, slice_index_or, if◌then◌else◌, is_ok, OnOk};
+ghost use Rattle.std.specs.Prelude.{◌≡◌, ℕ, ◌+◌, ◌<◌, ◌≤◌, ◌↔◌, IsTrue, List, [], ◌∷◌, false, length, slice_index};
+ghost use Rattle.std.specs.Prelude.{slice_index_or, if◌then◌else◌, is_ok, OnOk};
 ghost use Rattle.lc_record.specs.Words.{words_of};
 ghost use Rattle.lc_record.specs.declared.record.Record.{Record};
 ghost use Rattle.lc_log.specs.LogText.{IsLogText};
-ghost use Rattle.lc_log.specs.NodeLog.{IsClosing, IsIdle, IsUntouched, IsWithOrWithout, Holds, GateReads, LeavesOnly, Wrote, MadeStable, Continues};
+ghost use Rattle.lc_log.specs.NodeLog.{IsClosing, IsIdle, IsUntouched, IsWithOrWithout, Holds, GateReads, LeavesOnly};
+ghost use Rattle.lc_log.specs.NodeLog.{Wrote, MadeStable, Continues};
 ghost use Rattle.lc_log.specs.OneCall.{IsOneCall};
 
 use lc_disk::{Area, DeviceFault};
@@ -15,7 +17,8 @@ const CLOSED_GATE: u8 = 0;
 
 /// Whether the first gate of a log reads open, by the words of its area.
 pub fn begins_open(words: &[u64]) -> bool
-    ensures { (bytes : List ℕ) → ((k : ℕ) → slice_index_or bytes k 0 < 256) → 8 ≤ length bytes → words.now ≡ words_of bytes
+    ensures { (bytes : List ℕ) → ((k : ℕ) → slice_index_or bytes k 0 < 256) → 8 ≤ length bytes
+        → words.now ≡ words_of bytes
         → IsTrue result ↔ (slice_index bytes 0 ≡ 165) }
 {
     match words.first() {
@@ -25,7 +28,7 @@ pub fn begins_open(words: &[u64]) -> bool
 }
 
 /// Closes the first gate of a log where it reads open, as the caller has read it; else the call is made with no bytes.
-/// What stands after the records may be anything, an open gate too. This project's own.
+/// What stands after the records may be anything, an open gate too.
 pub fn close_first_gate<D: Area>(area: &mut D, is_open: bool) -> Result<(), DeviceFault>
     requires room { 8 ≤ length (D.now area.old) }
 
@@ -47,7 +50,7 @@ pub fn close_first_gate<D: Area>(area: &mut D, is_open: bool) -> Result<(), Devi
     area.write_at(0, closing_bytes(is_open))
 }
 
-/// Makes a closed first gate stable: the log has no record. This project's own.
+/// Makes a closed first gate stable: the log has no record.
 pub fn settle_first_gate<D: Area>(area: &mut D) -> Result<(), DeviceFault>
     ensures empty { OnOk result ((records : List Record)
         → IsClosing D.Area area.old records

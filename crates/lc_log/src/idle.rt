@@ -1,5 +1,6 @@
 //! A log at rest, and the calls that begin on it.
-ghost use Rattle.std.specs.Prelude.{◌≡◌, ◌≢◌, ℕ, ◌+◌, ◌*◌, ◌%◌, ◌<◌, ◌≤◌, ◌^◌, ◌++◌, List, [], ◌∷◌, true, false, length, drop, slice_index, ◌==◌, if◌then◌else◌, IfOk, IfErr, MatchResult};
+ghost use Rattle.std.specs.Prelude.{◌≡◌, ◌≢◌, ℕ, ◌+◌, ◌*◌, ◌%◌, ◌<◌, ◌≤◌, ◌^◌, ◌++◌, List, [], ◌∷◌, true, false};
+ghost use Rattle.std.specs.Prelude.{length, drop, slice_index, ◌==◌, if◌then◌else◌, IfOk, IfErr, MatchResult};
 ghost use Rattle.lc_disk.specs.Area.{IsClean, overlaid};
 ghost use Rattle.lc_record.specs.Words.{bytes_of};
 
@@ -24,7 +25,8 @@ pub struct Idle<D: Area> {
 impl<D: Area> Idle<D> {
     ghost use Rattle.lc_record.specs.declared.record.Record.{Record};
     ghost use Rattle.lc_log.specs.LogText.{IsLogText};
-    ghost use Rattle.lc_log.specs.NodeLog.{IsIdle, IsWritten, IsClosing, IsGroup, IsUntouched, IsWithOrWithout, LeavesOnly, Wrote, Continues};
+    ghost use Rattle.lc_log.specs.NodeLog.{IsIdle, IsWritten, IsClosing, IsGroup, IsUntouched, IsWithOrWithout};
+    ghost use Rattle.lc_log.specs.NodeLog.{LeavesOnly, Wrote, Continues};
     ghost use Rattle.lc_log.specs.OneCall.{IsOneCall};
 
     /// The log of an area that begins with no open gate, as it will after any stop: it has no record.
@@ -54,7 +56,8 @@ impl<D: Area> Idle<D> {
 
         // The group stands after the records, with its gate open, and then a zero word.
         ensures wrote { IfOk result (λ log. D.honest self.area ≡ true
-            → D.now log.area ≡ overlaid (D.now self.area) (8 * self.end) (165 ∷ drop 1 (bytes_of (group.now.words ++ 0 ∷ [])))) }
+            → D.now log.area ≡ overlaid (D.now self.area) (8 * self.end)
+            (165 ∷ drop 1 (bytes_of (group.now.words ++ 0 ∷ [])))) }
 
         ensures stable { IfOk result (λ log. D.honest self.area ≡ true → IsClean (D.dirty log.area)) }
         ensures end { IfOk result (λ log. log.end ≡ self.end + length group.now.words) }
@@ -88,7 +91,8 @@ impl<D: Area> Idle<D> {
             → IsIdle D.Area self.area self.end stable
             → LeavesOnly D.Area log.area (λ words. IsLogText words stable)) }
 
-        ensures wrote { IfOk result (λ log. Wrote D.Area (8 * self.end + 1) (drop 1 (bytes_of (group.now.words ++ 0 ∷ []))) self.area log.area) }
+        ensures wrote { IfOk result (λ log.
+            Wrote D.Area (8 * self.end + 1) (drop 1 (bytes_of (group.now.words ++ 0 ∷ []))) self.area log.area) }
         ensures end { IfOk result (λ log. log.end ≡ self.end) }
         ensures words { IfOk result (λ log. log.words ≡ length group.now.words) }
         ensures device { IfOk result (λ log. Continues D.Area self.area log.area) }
@@ -100,7 +104,8 @@ impl<D: Area> Idle<D> {
 
         ensures failed_device { IfErr result (λ failed. Continues D.Area self.area failed.area) }
         ensures cause { IfErr result (λ failed. D.failures failed.area ≡ D.failures self.area + 1) }
-        ensures call { MatchResult result (λ log. IsOneCall D.Area true self.area log.area) (λ failed. IsOneCall D.Area false self.area failed.area) }
+        ensures call { MatchResult result (λ log. IsOneCall D.Area true self.area log.area) (λ failed.
+            IsOneCall D.Area false self.area failed.area) }
     {
         let Idle { mut area, end } = self;
         match area.write_at(WORD_BYTES * end + 1, &group.bytes()[1..]) {
@@ -135,7 +140,8 @@ impl<D: Area> Idle<D> {
         ensures failed_untouched { IfErr result (λ failed. self.end ≡ 0 → IsUntouched D.Area failed.area self.area) }
         ensures failed_device { IfErr result (λ failed. Continues D.Area self.area failed.area) }
         ensures cause { IfErr result (λ failed. D.failures failed.area ≡ D.failures self.area + 1) }
-        ensures call { MatchResult result (λ log. IsOneCall D.Area true self.area log.area) (λ failed. IsOneCall D.Area false self.area failed.area) }
+        ensures call { MatchResult result (λ log. IsOneCall D.Area true self.area log.area) (λ failed.
+            IsOneCall D.Area false self.area failed.area) }
     {
         Closing::begin(self.area, self.end != 0)
     }

@@ -8,7 +8,7 @@ ghost use Rattle.lc_log.specs.InPlace.{left_of, spans_from};
 use lc_record::View;
 
 /// The records of a log's words that are still to come, each as its place, in words from the log's front, and how many
-/// words it takes. This project's own.
+/// words it takes.
 #[derive(Drop)]
 pub struct RecordPlaces<'a> {
     words: &'a [u64],

@@ -20,23 +20,27 @@ pub fn some_text()
 
 /// Where records stand in a list of words follows from the records.
 pub fn same_spans()
-    ensures { (words : List ℕ) (records : List Record) → IsLogText words records → spans_in words ≡ spans_from 0 records }
+    ensures { (words : List ℕ) (records : List Record) → IsLogText words records
+        → spans_in words ≡ spans_from 0 records }
 {}
 
 /// Each record of a log stands at its place, and takes as many words as it says.
 pub fn each_span()
     ensures span { (words : List ℕ) (records : List Record) → IsLogText words records
         → (i place len : ℕ) → slice_get (spans_from 0 records) i ≡ Some (place, len)
-        → (r : Record) × (slice_get records i ≡ Some r) × (len ≡ record_len r) × BeginsWith (drop place words) r (record_len r) }
+        → (r : Record) × (slice_get records i ≡ Some r) × (len ≡ record_len r)
+        × BeginsWith (drop place words) r (record_len r) }
 
     ensures record { (words : List ℕ) (records : List Record) → IsLogText words records
         → (i : ℕ) (r : Record) → slice_get records i ≡ Some r
-        → (place : ℕ) × (slice_get (spans_from 0 records) i ≡ Some (place, record_len r)) × BeginsWith (drop place words) r (record_len r) }
+        → (place : ℕ) × (slice_get (spans_from 0 records) i ≡ Some (place, record_len r))
+        × BeginsWith (drop place words) r (record_len r) }
 {}
 
 /// The words of a log at rest are the text of its stable records.
 pub fn begins_at_rest()
-    ensures { (now : List ℕ) (dirty : ℕ → Bool) (end : ℕ) (stable : List Record) → IsAtRest now dirty end stable → IsLogText (words_of now) stable }
+    ensures { (now : List ℕ) (dirty : ℕ → Bool) (end : ℕ) (stable : List Record) → IsAtRest now dirty end stable
+        → IsLogText (words_of now) stable }
 {}
 
 /// A stop leaves of a log at rest its stable records.

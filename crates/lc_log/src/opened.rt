@@ -1,10 +1,11 @@
 //! A log whose gate was opened over a stable group.
-ghost use Rattle.std.specs.Prelude.{◌≡◌, ◌++◌, ℕ, ◌+◌, ◌*◌, ◌<◌, ◌≤◌, ◌^◌, List, true, false, length, IfOk, IfErr, MatchResult};
+ghost use Rattle.std.specs.Prelude.{◌≡◌, ◌++◌, ℕ, ◌+◌, ◌*◌, ◌<◌, ◌≤◌, ◌^◌, List, true, false, length, IfOk, IfErr};
+ghost use Rattle.std.specs.Prelude.{MatchResult};
 
 use crate::{Failed, Idle};
 use lc_disk::Area;
 
-/// A log with an open gate, which may be torn, and a stable group after it. This project's own.
+/// A log with an open gate, which may be torn, and a stable group after it.
 #[derive(Drop)]
 pub struct Opened<D: Area> {
     /// The log's area.
@@ -45,7 +46,8 @@ impl<D: Area> Opened<D> {
 
         ensures failed_device { IfErr result (λ failed. Continues D.Area self.area failed.area) }
         ensures cause { IfErr result (λ failed. D.failures failed.area ≡ D.failures self.area + 1) }
-        ensures call { MatchResult result (λ log. IsOneCall D.Area true self.area log.area) (λ failed. IsOneCall D.Area false self.area failed.area) }
+        ensures call { MatchResult result (λ log. IsOneCall D.Area true self.area log.area) (λ failed.
+            IsOneCall D.Area false self.area failed.area) }
     {
         let Opened {
             mut area,

@@ -1,5 +1,6 @@
 //! A log with a stable group behind its closed gate.
-ghost use Rattle.std.specs.Prelude.{◌≡◌, ℕ, ◌+◌, ◌*◌, ◌<◌, ◌≤◌, ◌^◌, List, [], ◌∷◌, length, IfOk, IfErr, true, false, MatchResult};
+ghost use Rattle.std.specs.Prelude.{◌≡◌, ℕ, ◌+◌, ◌*◌, ◌<◌, ◌≤◌, ◌^◌, List, [], ◌∷◌, length, IfOk, IfErr, true, false};
+ghost use Rattle.std.specs.Prelude.{MatchResult};
 
 use crate::idle::WORD_BYTES;
 use crate::{Failed, Opened};
@@ -7,7 +8,7 @@ use lc_disk::Area;
 
 const OPEN_GATE: u8 = 0xa5;
 
-/// A log with a stable group behind the closed gate. This project's own.
+/// A log with a stable group behind the closed gate.
 #[derive(Drop)]
 pub struct Synced<D: Area> {
     /// The log's area.
@@ -48,7 +49,8 @@ impl<D: Area> Synced<D> {
 
         ensures failed_device { IfErr result (λ failed. Continues D.Area self.area failed.area) }
         ensures cause { IfErr result (λ failed. D.failures failed.area ≡ D.failures self.area + 1) }
-        ensures call { MatchResult result (λ log. IsOneCall D.Area true self.area log.area) (λ failed. IsOneCall D.Area false self.area failed.area) }
+        ensures call { MatchResult result (λ log. IsOneCall D.Area true self.area log.area) (λ failed.
+            IsOneCall D.Area false self.area failed.area) }
     {
         let Synced {
             mut area,

@@ -1,10 +1,11 @@
 //! A log with a group written behind its closed gate.
-ghost use Rattle.std.specs.Prelude.{◌≡◌, ℕ, ◌+◌, ◌*◌, ◌<◌, ◌≤◌, ◌^◌, List, length, IfOk, IfErr, true, false, MatchResult};
+ghost use Rattle.std.specs.Prelude.{◌≡◌, ℕ, ◌+◌, ◌*◌, ◌<◌, ◌≤◌, ◌^◌, List, length, IfOk, IfErr, true, false};
+ghost use Rattle.std.specs.Prelude.{MatchResult};
 
 use crate::{Failed, Synced};
 use lc_disk::Area;
 
-/// A log with a group behind the closed gate, which may be torn. This project's own.
+/// A log with a group behind the closed gate, which may be torn.
 #[derive(Drop)]
 pub struct Written<D: Area> {
     /// The log's area.
@@ -46,7 +47,8 @@ impl<D: Area> Written<D> {
 
         ensures failed_device { IfErr result (λ failed. Continues D.Area self.area failed.area) }
         ensures cause { IfErr result (λ failed. D.failures failed.area ≡ D.failures self.area + 1) }
-        ensures call { MatchResult result (λ log. IsOneCall D.Area true self.area log.area) (λ failed. IsOneCall D.Area false self.area failed.area) }
+        ensures call { MatchResult result (λ log. IsOneCall D.Area true self.area log.area) (λ failed.
+            IsOneCall D.Area false self.area failed.area) }
     {
         let Written {
             mut area,

@@ -1,5 +1,6 @@
 //! The laws of what the disks of a store hold, each the contract of a function with nothing to do.
-ghost use Rattle.std.specs.Prelude.{◌≡◌, ◌<◌, ◌≤◌, ◌++◌, ◌*◌, ℕ, Bool, true, false, List, length, Option, Some, All, max, slice_set, drop, ◌+◌, [], map, slice_get, ◌⊎◌};
+ghost use Rattle.std.specs.Prelude.{◌≡◌, ◌<◌, ◌≤◌, ◌++◌, ◌*◌, ℕ, Bool, true, false, List, length, Option, Some, All};
+ghost use Rattle.std.specs.Prelude.{max, slice_set, drop, ◌+◌, [], map, slice_get, ◌⊎◌};
 ghost use Rattle.lc_record.specs.declared.geometry.Geometry.{Geometry};
 ghost use Rattle.lc_record.specs.Content.{Content, segment_of};
 ghost use Rattle.lc_record.specs.Transaction.{Transaction, effects};
@@ -13,7 +14,8 @@ ghost use Rattle.lc_model.specs.Merging.{counted_all};
 ghost use Rattle.lc_model.specs.Stops.{MayCut};
 ghost use Rattle.lc_model.specs.Merge.{Page, StoreText, all_records, IsMerged};
 ghost use Rattle.lc_model.specs.Stored.{Disks, Fits, IsImage, Shows, Stands, IsOnPages, records_of};
-ghost use Rattle.lc_model.specs.Recovered.{AreRenewed, IsReadable, IsBehind, IsPartlyRenewed, AreStill, IsPartlyReset, HasByte, recovered_disks, zero_store, zero_content};
+ghost use Rattle.lc_model.specs.Recovered.{AreRenewed, IsReadable, IsBehind, IsPartlyRenewed, AreStill, IsPartlyReset};
+ghost use Rattle.lc_model.specs.Recovered.{HasByte, recovered_disks, zero_store, zero_content};
 ghost use Rattle.lc_model.specs.Moves.{with_begun, with_opened, with_settled, with_reset, with_dropped, page_now};
 
 use crate::{Event, Reply};
@@ -35,8 +37,8 @@ pub fn one_result()
 pub fn kept_by_moves()
     ensures aside { (m : Setting) (s : State) (d : Disks) (running : List Transaction) (place : ℕ → Place)
         (halted : ℕ → Bool) (flush : ℕ → Flush) (phase : Phase) → Fits m s d →
-        Sound m.geometry (record s { running = running; place = place; halted = halted; flush = flush; phase = phase }) →
-        Fits m (record s { running = running; place = place; halted = halted; flush = flush; phase = phase }) d }
+        Sound m.geometry (record s { running = running; place = place; halted = halted; flush = flush; phase = phase })
+        → Fits m (record s { running = running; place = place; halted = halted; flush = flush; phase = phase }) d }
     ensures marks { (m : Setting) (s : State) (d : Disks) (history : History) → Fits m s d →
         Sound m.geometry (record s { history = history }) → transactions history ≡ transactions s.history →
         Fits m (record s { history = history }) d }

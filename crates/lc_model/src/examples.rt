@@ -43,7 +43,8 @@ pub fn flush_ends()
 
 /// A fault at any of the four steps counts as the step, halts the node and acknowledges nothing.
 pub fn flush_faults()
-    ensures first_step { May unflushed (Event.FlushStep 0) (Reply.Refused Refusal.DeviceFault) (halting (flushing 1) 0) }
+    ensures first_step { May unflushed (Event.FlushStep 0) (Reply.Refused Refusal.DeviceFault)
+        (halting (flushing 1) 0) }
     ensures second_step { May (flushing 1) (Event.FlushStep 0) (Reply.Refused Refusal.DeviceFault)
         (halting (flushed_to (flushing 1) 0 2 2) 0) }
     ensures third_step { May (flushing 2) (Event.FlushStep 0) (Reply.Refused Refusal.DeviceFault)
@@ -210,7 +211,8 @@ pub fn recoveries()
     ensures down { (node thread : ℕ) (segments reading : List ℕ) →
         Refuses stopped (Event.Begin node thread segments reading) Refusal.Down }
     ensures recovered { May stopped Event.RecoverStep Reply.Recovered (fresh small (first ∷ second ∷ []) Up) }
-    ensures keeps_no_more { May stopped Event.RecoverStep Reply.Recovered (fresh small (first ∷ second ∷ third ∷ []) Up) → ⊥ }
+    ensures keeps_no_more { May stopped Event.RecoverStep Reply.Recovered (fresh small (first ∷ second ∷ third ∷ []) Up)
+        → ⊥ }
     ensures again { May stopped_again Event.RecoverStep Reply.Recovered
         (fresh small (first ∷ second ∷ third ∷ []) Up) }
     ensures loses_none { May stopped_again Event.RecoverStep Reply.Recovered (fresh small (third ∷ []) Up) → ⊥ }

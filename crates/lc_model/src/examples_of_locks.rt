@@ -34,8 +34,8 @@ pub fn read_behind_read()
     ensures keeps_second { kept (both read_one read_beside) (0 ∷ 1 ∷ []) ≡ read_beside ∷ [] }
 {}
 
-/// Of two that meet, one that read and one that wrote, no order turns them round: so not that of a cut that keeps the later
-/// alone. Two that read may be turned round.
+/// Of two that meet, one that read and one that wrote, no order turns them round: so not that of a cut that keeps the
+/// later alone. Two that read may be turned round.
 pub fn order_of_two()
     ensures as_they_stood { KeepsOrder (read_one ∷ write_one ∷ []) (read_one ∷ write_one ∷ []) }
     ensures not_turned_round { KeepsOrder (read_one ∷ write_one ∷ []) (write_one ∷ read_one ∷ []) → ⊥ }

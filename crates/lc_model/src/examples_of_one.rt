@@ -1,4 +1,5 @@
-//! Runs of the plain machine that touch one thing alone: one thread of several, one token; and what is told past a segment's end.
+//! Runs of the plain machine that touch one thing alone: one thread of several, one token; and what is told past a
+//! segment's end.
 ghost use Rattle.std.specs.Prelude.{◌≡◌, true, false, None, [], ◌∷◌};
 ghost use Rattle.lc_model.specs.State.{State, At};
 ghost use Rattle.lc_model.specs.Machine.{placed};
@@ -7,7 +8,8 @@ ghost use Rattle.lc_model.specs.ExamplesOfLocks.{three_open, two_reserved};
 
 use crate::{Event, Refusal, Reply};
 
-/// An abort drops the transaction of its thread, and neither that of another thread of the node nor that of another node.
+/// An abort drops the transaction of its thread, and neither that of another thread of the node nor that of another
+/// node.
 pub fn aborts_one()
     ensures second_thread { Only three_open (Event.Abort 0 1) Reply.Ok
         (record three_open { running = third ∷ opened 1 0 [] ∷ [] }) }
@@ -38,8 +40,8 @@ pub fn arrives_at_one()
     ensures not_stepped { Never moving (Event.Arrive 1 1) Reply.Nothing }
 {}
 
-/// Past a segment's last byte a read and a write are refused, the write before its range is looked at; a range of nothing is
-/// refused before its place is.
+/// Past a segment's last byte a read and a write are refused, the write before its range is looked at; a range of
+/// nothing is refused before its place is.
 pub fn past_the_segment()
     ensures reads_the_last { Only reading (Event.Read 0 1 1 255 1) (Reply.Bytes (0 ∷ [])) reading }
     ensures read_past { OnlyRefuses reading (Event.Read 0 1 1 255 2) (Refusal.OutOfSegment None) }

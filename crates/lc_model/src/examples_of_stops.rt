@@ -56,8 +56,9 @@ pub fn stop_behind_a_flush()
         May (closed_since 2) (Event.Stop choices) Reply.Down (stopped_at (1 ∷ 1 ∷ []) (closed_since 2)) }
     ensures two_not_at_taken { (choices : List (List Choice)) →
         May (closed_since 2) (Event.Stop choices) Reply.Down (stopped_at (2 ∷ 1 ∷ []) (closed_since 2)) → ⊥ }
-    ensures goes_down { (choices : List (List Choice)) (new : State) →
-        May (closed_since 3) (Event.Stop choices) Reply.Down new → (cut : Cut) × (new ≡ stopped_at cut (closed_since 3)) }
+    ensures goes_down { (choices : List (List Choice)) (new : State)
+        → May (closed_since 3) (Event.Stop choices) Reply.Down new
+        → (cut : Cut) × (new ≡ stopped_at cut (closed_since 3)) }
     ensures no_refusal { (choices : List (List Choice)) (refusal : Refusal) →
         Never (closed_since 3) (Event.Stop choices) (Reply.Refused refusal) }
 {}
@@ -69,8 +70,9 @@ pub fn stop_is_closed()
     ensures taken_may { MayCutAt (flushing 3) 0 2 }
     ensures none { (choices : List (List Choice)) →
         May (flushing 3) (Event.Stop choices) Reply.Down (stopped_at (0 ∷ 0 ∷ []) (flushing 3)) }
-    ensures halted { (choices : List (List Choice)) →
-        May (halting (flushing 3) 0) (Event.Stop choices) Reply.Down (stopped_at (0 ∷ 0 ∷ []) (halting (flushing 3) 0)) }
+    ensures halted { (choices : List (List Choice))
+        → May (halting (flushing 3) 0) (Event.Stop choices) Reply.Down
+        (stopped_at (0 ∷ 0 ∷ []) (halting (flushing 3) 0)) }
 {}
 
 /// A store that is down stays at the cut of its first stop.

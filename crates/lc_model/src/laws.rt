@@ -23,8 +23,8 @@ ghost use Rattle.lc_model.specs.Choices.{AtLeastOne, ExactlyOne, Beside, leaves_
 
 use crate::{Event, Refusal, Reply};
 
-/// What a closed cut keeps, followed by the rest, has the value of the whole history, has each
-/// transaction once, and has any two that meet, also one that read and one that wrote, in the order in
+/// What a closed cut keeps, followed by the rest, has the value of the whole history and has each
+/// transaction once. Any two that meet, also one that read and one that wrote, are in it in the order in
 /// which they stood. So what is kept is a prefix of a serial order.
 pub fn closed_cut()
     ensures same_value { (start : Content) (earlier : List Transaction) (history : History) (cut : Cut) →

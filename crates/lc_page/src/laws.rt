@@ -50,7 +50,8 @@ pub fn settled_when_clean()
 pub fn settled_from_images()
     ensures { (now : List ℕ) (dirty : ℕ → Bool) (page : ℕ) (text : PageText) → (2 * page + 2) * 272 ≤ length now
         → ((k : ℕ) → slice_index_or now k 0 < 256)
-        → ((image : List ℕ) → IsImage now dirty image → (text_in image page ≡ text) × (page_in image page ≡ page_in now page))
+        → ((image : List ℕ) → IsImage now dirty image
+        → (text_in image page ≡ text) × (page_in image page ≡ page_in now page))
         → IsSettled now dirty page text }
 {}
 
@@ -63,7 +64,8 @@ pub fn settled_reads()
 /// And so in each image, with the same page.
 pub fn settled_images()
     ensures { (now : List ℕ) (dirty : ℕ → Bool) (page : ℕ) (text : PageText) → IsSettled now dirty page text
-        → (image : List ℕ) → IsImage now dirty image → (text_in image page ≡ text) × (page_in image page ≡ page_in now page) }
+        → (image : List ℕ) → IsImage now dirty image
+        → (text_in image page ≡ text) × (page_in image page ≡ page_in now page) }
 {}
 
 /// What is done beside a settled page keeps it settled.
@@ -79,8 +81,8 @@ pub fn others_keep<D: Area>()
         → IsUnderWay D.Area old writing text page → IsUnderWay D.Area new writing text page }
 {}
 
-/// Of a page that is under way, the area and each image have the old page before the fifth call. After it the area reads
-/// the new page, and each image has the old one or the new one.
+/// Of a page that is under way, the area and each image have the old page before the fifth call. After it the area
+/// reads the new page, and each image has the old one or the new one.
 pub fn page_under_way<D: Area>()
     ensures old { (area : D) (writing : Writing) (text : PageText) (old : Page) → calls_of writing < 5
         → IsUnderWay D.Area area writing text old

@@ -1,10 +1,12 @@
 //! A page write: six calls of the device, one from each state to the next.
-ghost use Rattle.std.specs.Prelude.{◌≡◌, ◌+◌, ◌*◌, ◌<◌, ◌≤◌, ◌^◌, ◌↔◌, ℕ, true, false, [], ◌∷◌, length, is_ok, IsOk, IfOk, IfErr, OnOk, OnErr};
+ghost use Rattle.std.specs.Prelude.{◌≡◌, ◌+◌, ◌*◌, ◌<◌, ◌≤◌, ◌^◌, ◌↔◌, ℕ, true, false, [], ◌∷◌, length, is_ok, IsOk};
+ghost use Rattle.std.specs.Prelude.{IfOk, IfErr, OnOk, OnErr};
 ghost use Rattle.lc_page.specs.declared.page_text.PageText.{PageText};
 ghost use Rattle.lc_page.specs.Slot.{next_slot};
 ghost use Rattle.lc_page.specs.Page.{Page, slot_at, page_in};
 ghost use Rattle.lc_page.specs.PageVector.{entry_at, entry_text, settled_text};
-ghost use Rattle.lc_page.specs.PageWrite.{IsBegun, drafted, closing_bytes, behind_gate, Writes, Syncs, SettledIn, ClosingIn, ClosedIn, FillingIn, FilledIn, OpeningIn, HasPage, IsEither};
+ghost use Rattle.lc_page.specs.PageWrite.{IsBegun, drafted, closing_bytes, behind_gate, Writes, Syncs, SettledIn};
+ghost use Rattle.lc_page.specs.PageWrite.{ClosingIn, ClosedIn, FillingIn, FilledIn, OpeningIn, HasPage, IsEither};
 
 use crate::limits::{GATE_CLOSED, GATE_OPEN};
 use crate::{Draft, PageFault, PageVector};
@@ -116,7 +118,8 @@ impl PageWrite<Begun> {
         ensures nothing { self.state.gate ≡ false → D.honest area.old ≡ true
             → (k : ℕ) → D.dirty area.new k ≡ D.dirty area.old k }
 
-        ensures call { Writes D.Area self.draft.page (slot_at self.draft.page self.draft.slot) (closing_bytes self.state.gate)
+        ensures call { Writes D.Area self.draft.page (slot_at self.draft.page self.draft.slot)
+            (closing_bytes self.state.gate)
             area.old area.new (is_ok result) }
         ensures fault { IfErr result (λ f. f ≡ PageFault.DeviceFault) }
     {

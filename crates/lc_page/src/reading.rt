@@ -1,7 +1,8 @@
 //! What an area holds of a page.
 ghost use Rattle.std.specs.Prelude.{◌≡◌, ◌+◌, ◌*◌, ◌≤◌, ◌^◌, ◌==◌, length, nat_lt};
 ghost use Rattle.std.specs.List.{list_all};
-ghost use Rattle.lc_page.specs.Page.{slot_bytes, has_gate, sequence_of, content_of, is_open, page_in, text_in, chosen_slot};
+ghost use Rattle.lc_page.specs.Page.{slot_bytes, has_gate, sequence_of, content_of, is_open, page_in, text_in};
+ghost use Rattle.lc_page.specs.Page.{chosen_slot};
 
 use crate::limits::{GATE_OPEN, GREATEST_SEQUENCE, SLOT_BYTES};
 use crate::{PageText, Slot};
@@ -66,7 +67,8 @@ fn present(first: &[u8], second: &[u8]) -> Option<Slot>
     requires first { length first.now ≡ 272 }
     requires second { length second.now ≡ 272 }
     ensures { result
-        ≡ chosen_slot (is_open first.now) (is_open second.now) (nat_lt (sequence_of first.now) (sequence_of second.now)) }
+        ≡ chosen_slot (is_open first.now) (is_open second.now)
+        (nat_lt (sequence_of first.now) (sequence_of second.now)) }
 {
     let newer = sequence(first) < sequence(second);
     match (is_open(first), is_open(second)) {

@@ -2,7 +2,8 @@
 ghost use Rattle.std.specs.Prelude.{◌≡◌, ◌≢◌, ◌+◌, ◌*◌, ◌<◌, ◌≤◌, ℕ, length, is_ok, IfOk, IfErr};
 ghost use Rattle.lc_page.specs.declared.page_text.PageText.{PageText};
 ghost use Rattle.lc_page.specs.Page.{Page, slot_at, page_in};
-ghost use Rattle.lc_page.specs.PageWrite.{IsBegun, drafted, closing_bytes, Continues, Writes, KeepsPage, SettledIn, HasPage, IsEither};
+ghost use Rattle.lc_page.specs.PageWrite.{IsBegun, drafted, closing_bytes, Continues, Writes, KeepsPage, SettledIn};
+ghost use Rattle.lc_page.specs.PageWrite.{HasPage, IsEither};
 
 use crate::page_write::{Begun, Closed, ClosingGate, Filled, Filling, OpeningGate};
 use crate::{Draft, PageFault, PageWrite};
@@ -42,7 +43,8 @@ impl Writing {
             → SettledIn D.Area area.old write.draft.page text
             → HasPage D.Area area.new write.draft.page (λ page. page ≡ page_in (D.now area.old) write.draft.page) }
 
-        ensures call { Writes D.Area write.draft.page (slot_at write.draft.page write.draft.slot) (closing_bytes write.state.gate)
+        ensures call { Writes D.Area write.draft.page (slot_at write.draft.page write.draft.slot)
+            (closing_bytes write.state.gate)
             area.old area.new (is_ok result) }
         ensures device { Continues D.Area area.old area.new (is_ok result) }
         ensures others { (page : ℕ) → page ≢ write.draft.page → KeepsPage D.Area page area.old area.new }

@@ -1,7 +1,7 @@
 //! Why a range is not added.
 use thiserror::Error;
 
-/// Why `RangeSet::add` adds nothing. This project's own.
+/// Why `RangeSet::add` adds nothing.
 #[derive(Clone, Copy, Debug, PartialEq, Eq, Error)]
 pub enum RangeFault {
     /// The range's end lies beyond the segment's.

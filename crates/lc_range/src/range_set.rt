@@ -53,8 +53,8 @@ impl RangeSet {
     }
 
     /// Adds `len` positions, in bytes, of a segment of `segment_len` bytes, from `offset` on. Runs that overlap or
-    /// touch become one. A binary search finds its place, and only the runs that it touches are looked at from there on. It
-    /// takes memory only where a ninth run or a later one comes.
+    /// touch become one. A binary search finds its place, and only the runs that it touches are looked at from there
+    /// on. It takes memory only where a ninth run or a later one comes.
     ///
     /// # Errors
     ///

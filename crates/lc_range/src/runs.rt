@@ -22,8 +22,8 @@ fn are_before(runs: &[Range], range: &Range) -> bool
     }
 }
 
-/// How many of these runs, from the first on, lie before a range. Nothing is searched where all do, or all but the last,
-/// as where ranges come in ascending order.
+/// How many of these runs, from the first on, lie before a range. Nothing is searched where all do, or all but the
+/// last, as where ranges come in ascending order.
 pub fn count_before(runs: &[Range], range: &Range) -> usize
     requires { IsCanonical runs.now }
     ensures within { result ≤ length runs.now }
@@ -47,8 +47,8 @@ pub fn count_before(runs: &[Range], range: &Range) -> usize
     )
 }
 
-/// Which runs a range takes the place of, and joined to which run. This is the one search for the place of a range, whatever
-/// is then done there.
+/// Which runs a range takes the place of, and joined to which run. This is the one search for the place of a range,
+/// whatever is then done there.
 pub fn touched(runs: &[Range], range: &Range) -> Touched
     requires canonical { IsCanonical runs.now }
     requires ends { EndWithin runs.now (2 ^ 32 - 1) }

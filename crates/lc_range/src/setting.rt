@@ -1,15 +1,17 @@
 //! A range that is set: its old bytes are kept and it is added, both at the place that one search has found.
-ghost use Rattle.std.specs.Prelude.{◌≡◌, ◌≢◌, ◌⊎◌, ◌↔◌, ◌+◌, ◌-◌, ◌^◌, ◌<◌, ◌≤◌, ℕ, [], ◌∷◌, length, min, slice_index, Err, IfErr, OnOk, OnErr};
+ghost use Rattle.std.specs.Prelude.{◌≡◌, ◌≢◌, ◌⊎◌, ◌↔◌, ◌+◌, ◌-◌, ◌^◌, ◌<◌, ◌≤◌, ℕ, [], ◌∷◌, length, min, slice_index};
+ghost use Rattle.std.specs.Prelude.{Err, IfErr, OnOk, OnErr};
 ghost use Rattle.lc_range.specs.RangeSet.{AddsPositions, CountsOutside, MissesSome, NeedsRunsAbove};
 ghost use Rattle.lc_range.specs.Copies.{copy_at};
-ghost use Rattle.lc_range.specs.Undo.{AddsCopies, KeepsOld, LiesBelow, NeedsBytesAbove, NeedsCopiesAbove, bytes_kept, first_bytes};
+ghost use Rattle.lc_range.specs.Undo.{AddsCopies, KeepsOld, LiesBelow, NeedsBytesAbove, NeedsCopiesAbove, bytes_kept};
+ghost use Rattle.lc_range.specs.Undo.{first_bytes};
 
 use crate::runs::touched;
 use crate::{Range, RangeFault, RangeSet, Undo};
 
 impl RangeSet {
-    /// Keeps the bytes of `len` positions of a segment from `offset` on that are not in the set, as the segment's image has
-    /// them (`Undo::keep_old`), and adds the positions (`add`). Their place among the runs is looked for once.
+    /// Keeps the bytes of `len` positions of a segment from `offset` on that are not in the set, as the segment's image
+    /// has them (`Undo::keep_old`), and adds the positions (`add`). Their place among the runs is looked for once.
     /// Idea: RVM's set-range (Satyanarayanan et al., TOCS 1994).
     ///
     /// # Errors
@@ -43,7 +45,8 @@ impl RangeSet {
         // Memory is wanted only for a position that is new, and a ninth run or copy or more than 64 bytes.
         ensures no_memory { result ≡ Err RangeFault.NoMemory → MissesSome self.old segment offset len }
         ensures needs { result ≡ Err RangeFault.NoMemory → NeedsRunsAbove 8 self.old segment offset len
-            ⊎ (NeedsCopiesAbove 8 undo.old self.old segment offset len ⊎ NeedsBytesAbove 64 undo.old self.old segment offset len) }
+            ⊎ (NeedsCopiesAbove 8 undo.old self.old segment offset len
+            ⊎ NeedsBytesAbove 64 undo.old self.old segment offset len) }
 
         ensures empty { result ≢ Err RangeFault.EmptyRange }
         ensures outside { result ≢ Err RangeFault.OutOfSegment }

@@ -61,8 +61,8 @@ impl Undo {
     ///
     /// # Errors
     ///
-    /// Where there is no memory; what is kept is then as before. Memory is wanted only where there is a byte to keep, and
-    /// more than 8 copies would be there with it or more than 64 bytes.
+    /// Where there is no memory; what is kept is then as before. Memory is wanted only where there is a byte to keep,
+    /// and more than 8 copies would be there with it or more than 64 bytes.
     pub fn keep_old(
         &mut self,
         set: &RangeSet,

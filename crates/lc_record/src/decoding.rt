@@ -79,8 +79,9 @@ pub fn read_ranges_of(
     words: &[u64],
     segment: u32,
 ) -> Result<Vec<RangeData>, AllocError>
-    ensures { IfOk result (λ copies. (ranges : List Written) (rest : List ℕ) → ranges_at head.version head.ranges words.now ≡ Some (ranges, rest) →
-        copies.items ≡ filter (λ range. range.segment == segment) ranges) }
+    ensures { IfOk result (λ copies. (ranges : List Written) (rest : List ℕ)
+        → ranges_at head.version head.ranges words.now ≡ Some (ranges, rest)
+        → copies.items ≡ filter (λ range. range.segment == segment) ranges) }
 {
     let mut copies = Vec::new(alloc);
     let mut rest = words;
@@ -102,7 +103,8 @@ fn add_where_of(
     copies: &mut Vec<RangeData>,
 ) -> Result<(), AllocError>
     ensures { OnOk result (copies.new.items
-        ≡ copies.old.items ++ filter (λ its. its.segment == segment) (range_of range.entry.span range.entry.data.now ∷ [])) }
+        ≡ copies.old.items ++ filter (λ its. its.segment == segment)
+        (range_of range.entry.span range.entry.data.now ∷ [])) }
 {
     if range.span.segment == segment {
         copies.push(read_range(alloc, range)?)?;

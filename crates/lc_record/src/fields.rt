@@ -9,7 +9,8 @@ pub const RANGE_COUNT_PLACE: u32 = 16;
 pub const LENGTH_PLACE: u32 = 32;
 /// The bit of the second word at which the number of locks begins, above the node.
 pub const LOCK_COUNT_PLACE: u32 = 16;
-/// The bit at which the offset begins in the word that tells where a range of the first version stands, above the segment.
+/// The bit at which the offset begins in the word that tells where a range of the first version stands, above the
+/// segment.
 pub const OFFSET_PLACE: u32 = 32;
 
 const BYTE_MASK: u64 = 0xff;

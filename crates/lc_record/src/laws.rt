@@ -18,5 +18,6 @@ pub fn header_tells_length()
 
 /// The ranges of a record are those whose bytes stand at the places of its spans, whatever follows it.
 pub fn spans_give_ranges()
-    ensures { (r : Record) (words : List ℕ) (len : ℕ) → BeginsWith words r len → map (range_in words) (placed_spans r) ≡ r.ranges }
+    ensures { (r : Record) (words : List ℕ) (len : ℕ) → BeginsWith words r len
+        → map (range_in words) (placed_spans r) ≡ r.ranges }
 {}

@@ -9,7 +9,7 @@ use crate::limits::{LOCK_WORDS, MAX_WORDS, RECORD_WORDS};
 
 /// What the length and the first two words of a record rest on: how many locks and ranges it has, how many words the
 /// bytes of its ranges take, and the version of the grammar. A number that is too great for a word stays at the
-/// greatest. This project's own.
+/// greatest.
 #[derive(Clone, Copy)]
 pub struct Layout {
     pub(crate) locks: usize,

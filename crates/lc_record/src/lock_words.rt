@@ -8,7 +8,7 @@ use crate::Lock;
 use crate::canonical::is_lock;
 use crate::limits::LOCK_WORDS;
 
-/// The locks in these words that are still to come: no word is copied. This project's own.
+/// The locks in these words that are still to come: no word is copied.
 #[derive(Clone, Copy)]
 pub struct LockWords<'a> {
     words: &'a [u64],

@@ -25,7 +25,8 @@ impl Part {
     pub fn of(alloc: Global, record: &Record, segment: u32) -> Result<Option<Part>, AllocError>
         ensures part { IfOk result (λ part. part ≡ part_of segment «record».now) }
         ensures none { (result ≡ Ok None) ↔ (number_in segment «record».now.locks ≡ None) }
-        ensures memory { OnErr result (IsSome (number_in segment «record».now.locks) × Writes segment «record».now.ranges) }
+        ensures memory { OnErr result (IsSome (number_in segment «record».now.locks)
+            × Writes segment «record».now.ranges) }
     {
         let Some(seq) = Part::number_in(record, segment) else {
             return Ok(None);

@@ -2,7 +2,9 @@
 ghost use Rattle.std.specs.Prelude.{◌≡◌, ◌*◌, ◌/◌, ◌%◌, ◌^◌, ◌≤◌, ℕ, IfSome, List, Some, length, slice_get};
 ghost use Rattle.lc_record.specs.declared.record.RangeData.{RangeData};
 ghost use Rattle.lc_record.specs.LockWords.{locks_in};
-ghost use Rattle.lc_record.specs.Reading.{Gives, apart_at, front, front_at, has_room, head_at, is_closed, is_first, is_second, len_at, packed_at, place_at, range_at, range_of, ranges_at, start, walked};
+ghost use Rattle.lc_record.specs.Reading.{Gives, apart_at, front, front_at, has_room, head_at, is_closed, is_first};
+ghost use Rattle.lc_record.specs.Reading.{is_second, len_at, packed_at, place_at, range_at, range_of, ranges_at, start};
+ghost use Rattle.lc_record.specs.Reading.{walked};
 
 use crate::GrammarVersion;
 use crate::data::{data_len, is_padded};
@@ -159,8 +161,9 @@ pub fn range_of(version: GrammarVersion, words: &[u64]) -> Option<(RangeWords<'_
 
 /// Of the ranges that stand here, the one at this index.
 pub fn nth_range(head: Head, index: usize, words: &[u64]) -> Option<RangeWords<'_>>
-    ensures read { (ranges : List RangeData) (rest : List ℕ) → ranges_at head.version head.ranges words.now ≡ Some (ranges, rest) →
-        Gives (λ x. range_of x.span x.data.now) result (slice_get ranges index) }
+    ensures read { (ranges : List RangeData) (rest : List ℕ)
+        → ranges_at head.version head.ranges words.now ≡ Some (ranges, rest)
+        → Gives (λ x. range_of x.span x.data.now) result (slice_get ranges index) }
     ensures short { IfSome result (λ x. x.span.len ≤ 262144) }
     ensures whole { IfSome result (λ x. x.span.len ≤ 8 * length x.data.now) }
 {
@@ -178,7 +181,8 @@ pub fn nth_range(head: Head, index: usize, words: &[u64]) -> Option<RangeWords<'
 
 // The words after the ranges, which follow on these locks and are of the version that the head has.
 fn behind_ranges<'a>(head: Head, locks: LockWords<'_>, words: &'a [u64]) -> Option<&'a [u64]>
-    ensures { Gives (λ rest. rest.now) result (walked head.version (start (locks_in locks.entry.words.now)) (ranges_at head.version head.ranges words.now)) }
+    ensures { Gives (λ rest. rest.now) result
+        (walked head.version (start (locks_in locks.entry.words.now)) (ranges_at head.version head.ranges words.now)) }
 {
     let mut walk = start(locks);
     let mut needed = GrammarVersion::First;

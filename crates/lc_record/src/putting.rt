@@ -14,8 +14,9 @@ use crate::parts::{Head, range_of};
 fn put_data(words: &[u64], len: usize, skipped: usize, bytes: &mut [u8])
     requires { len ≤ 8 * length words.now }
     ensures len { length bytes.new ≡ length bytes.old }
-    ensures put { (k : ℕ) → k < length bytes.old →
-        slice_get bytes.new k ≡ option_or (slice_get (take len (bytes_of words.now)) (skipped + k)) (slice_get bytes.old k) }
+    ensures put { (k : ℕ) → k < length bytes.old
+        → slice_get bytes.new k ≡ option_or (slice_get (take len (bytes_of words.now)) (skipped + k))
+        (slice_get bytes.old k) }
 {
     let count = len.saturating_sub(skipped).min(bytes.len());
     let mut done = 0;
@@ -29,12 +30,13 @@ fn put_data(words: &[u64], len: usize, skipped: usize, bytes: &mut [u8])
     }
 }
 
-/// Puts so many bytes of these words, which stand at a place of a segment, over those that begin at an offset of it, as far as
-/// there are words and both reach. It takes no memory. This project's own.
+/// Puts so many bytes of these words, which stand at a place of a segment, over those that begin at an offset of it, as
+/// far as there are words and both reach. It takes no memory.
 pub fn put_words(words: &[u64], start: usize, len: usize, offset: usize, bytes: &mut [u8])
     ensures len { length bytes.new ≡ length bytes.old }
-    ensures put { (k : ℕ) → k < length bytes.old →
-        slice_get bytes.new k ≡ option_or (byte_from start (take len (bytes_of words.now)) (offset + k)) (slice_get bytes.old k) }
+    ensures put { (k : ℕ) → k < length bytes.old
+        → slice_get bytes.new k ≡ option_or (byte_from start (take len (bytes_of words.now)) (offset + k))
+        (slice_get bytes.old k) }
 {
     let count = len.min(words.len() * WORD);
     let skipped = offset.saturating_sub(start);
@@ -47,9 +49,10 @@ pub fn put_words(words: &[u64], start: usize, len: usize, offset: usize, bytes: 
 /// Puts the bytes of the ranges that stand here over those that begin at an offset of a segment.
 pub fn put_ranges(head: Head, words: &[u64], segment: u32, offset: usize, bytes: &mut [u8])
     ensures len { length bytes.new ≡ length bytes.old }
-    ensures put { (ranges : List RangeData) (rest : List ℕ) → ranges_at head.version head.ranges words.now ≡ Some (ranges, rest) →
-        (k : ℕ) → k < length bytes.old →
-        slice_get bytes.new k ≡ option_or (byte_of segment (offset + k) ranges) (slice_get bytes.old k) }
+    ensures put { (ranges : List RangeData) (rest : List ℕ)
+        → ranges_at head.version head.ranges words.now ≡ Some (ranges, rest)
+        → (k : ℕ) → k < length bytes.old
+        → slice_get bytes.new k ≡ option_or (byte_of segment (offset + k) ranges) (slice_get bytes.old k) }
 {
     let mut rest = words;
     for _ in 0..head.ranges {

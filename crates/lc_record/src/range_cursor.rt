@@ -17,7 +17,8 @@ pub struct RangeCursor<'a> {
 
 /// Before the first range. Nothing stands in segment 0 after this end.
 pub fn start(locks: LockWords<'_>) -> RangeCursor<'_>
-    ensures { place result.segment result.end (locks_in result.locks.words.now) ≡ start (locks_in locks.entry.words.now) }
+    ensures { place result.segment result.end (locks_in result.locks.words.now)
+        ≡ start (locks_in locks.entry.words.now) }
 {
     RangeCursor {
         segment: 0,

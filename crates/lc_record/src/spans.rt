@@ -7,7 +7,7 @@ use crate::data::data_len;
 use crate::parts::{Head, place_of};
 use crate::{GrammarVersion, PlacedSpan};
 
-/// The ranges of a record that are still to come, each with its place. This project's own.
+/// The ranges of a record that are still to come, each with its place.
 #[derive(Drop)]
 pub struct Spans<'a> {
     words: &'a [u64],

@@ -1,5 +1,6 @@
 //! The words of a record while they are written.
-ghost use Rattle.std.specs.Prelude.{◌≡◌, ◌+◌, ◌*◌, ◌^◌, ◌<◌, ◌≤◌, [], ◌∷◌, ◌++◌, length, vec_len, vec_capacity, IfOk, OnErr};
+ghost use Rattle.std.specs.Prelude.{◌≡◌, ◌+◌, ◌*◌, ◌^◌, ◌<◌, ◌≤◌, [], ◌∷◌, ◌++◌, length, vec_len, vec_capacity, IfOk};
+ghost use Rattle.std.specs.Prelude.{OnErr};
 ghost use Rattle.lc_record.specs.GrammarVersion.{place_words};
 ghost use Rattle.lc_record.specs.Layout.{data_len, first_word, second_word, layout_len};
 ghost use Rattle.lc_record.specs.Record.{lock_words, range_words, span_words};
@@ -14,8 +15,8 @@ use crate::{GrammarVersion, Layout, Lock};
 use std::alloc::{AllocError, Global};
 use std::marker::Model;
 
-/// The words of a record, written from the front: `new` or `in_memory_of`, each lock, each range, `finish`. Only the first
-/// of these takes memory, for all of them. This project's own.
+/// The words of a record, written from the front: `new` or `in_memory_of`, each lock, each range, `finish`. Only the
+/// first of these takes memory, for all of them.
 #[derive(Drop)]
 pub struct Spelling {
     words: Vec<u64>,
@@ -41,7 +42,8 @@ impl Spelling {
     pub fn new(alloc: Global, node: u16, layout: &Layout) -> Result<Spelling, AllocError>
         requires { layout_len layout.now ≤ 4096 }
         ensures { IfOk result (λ s. s ≡ record {
-          words = first_word layout.now.version layout.now.ranges (layout_len layout.now) ∷ second_word node layout.now.locks ∷ [];
+          words = first_word layout.now.version layout.now.ranges (layout_len layout.now)
+              ∷ second_word node layout.now.locks ∷ [];
           version = layout.now.version;
           len = layout_len layout.now;
         }) }
@@ -49,8 +51,9 @@ impl Spelling {
         Spelling::in_memory_of(Vec::new(alloc), node, layout)
     }
 
-    /// The first two words of a record of this node, in the memory of this list, whose own words go. It takes memory only
-    /// where the list has no room for all words of the record, which are 4096 at most, and then for all of them at once.
+    /// The first two words of a record of this node, in the memory of this list, whose own words go. It takes memory
+    /// only where the list has no room for all words of the record, which are 4096 at most, and then for all of them at
+    /// once.
     pub fn in_memory_of(
         mut words: Vec<u64>,
         node: u16,
@@ -58,7 +61,8 @@ impl Spelling {
     ) -> Result<Spelling, AllocError>
         requires { layout_len layout.now ≤ 4096 }
         ensures begun { IfOk result (λ s. s ≡ record {
-          words = first_word layout.now.version layout.now.ranges (layout_len layout.now) ∷ second_word node layout.now.locks ∷ [];
+          words = first_word layout.now.version layout.now.ranges (layout_len layout.now)
+              ∷ second_word node layout.now.locks ∷ [];
           version = layout.now.version;
           len = layout_len layout.now;
         }) }
@@ -92,7 +96,8 @@ impl Spelling {
     pub fn add_range(&mut self, segment: u32, offset: u32, bytes: &[u8])
         requires { length self.old.words + place_words self.old.version + data_len (length bytes.now) ≤ self.old.len }
         ensures { self.new ≡ record self.old {
-          words = self.old.words ++ range_words self.old.version (record { segment = segment; offset = offset; bytes = bytes.now });
+          words = self.old.words ++ range_words self.old.version
+              (record { segment = segment; offset = offset; bytes = bytes.now });
         } }
     {
         let span = Span {

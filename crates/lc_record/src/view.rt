@@ -1,5 +1,6 @@
 //! A record that is read where its words stand.
-ghost use Rattle.std.specs.Prelude.{◌≡◌, ◌+◌, ◌*◌, ◌<◌, ◌≤◌, ◌↔◌, ℕ, List, None, Some, Ok, length, drop, option_map, slice_get, IfOk, OnErr, IfSome, IfNone, IsSome};
+ghost use Rattle.std.specs.Prelude.{◌≡◌, ◌+◌, ◌*◌, ◌<◌, ◌≤◌, ◌↔◌, ℕ, List, None, Some, Ok, length, drop, option_map};
+ghost use Rattle.std.specs.Prelude.{slice_get, IfOk, OnErr, IfSome, IfNone, IsSome};
 ghost use Rattle.std.specs.Option.{option_or};
 ghost use Rattle.lc_record.specs.Newest.{byte_of};
 ghost use Rattle.lc_record.specs.Codec.{BeginsWith, BeginsNoRecord};
@@ -23,8 +24,7 @@ use crate::{Items, Lock, Part};
 use std::alloc::{AllocError, Global};
 use std::marker::Model;
 
-/// The words of one record, which stay where they are: it is read without memory and without a copy, but for `part`. This
-/// project's own.
+/// The words of one record, which stay where they are: it is read without memory and without a copy, but for `part`.
 #[derive(Drop)]
 pub struct View<'a> {
     words: &'a [u64],
@@ -147,8 +147,9 @@ impl<'a> View<'a> {
         put_ranges(self.head(), self.ranges(), segment, offset, bytes);
     }
 
-    /// A copy of the record's part that is of this segment; None exactly where the record has no lock on it. It goes over the
-    /// ranges once, and takes memory for that part alone. Idea: log-based coherency (Feeley et al., OSDI 1994).
+    /// A copy of the record's part that is of this segment; None exactly where the record has no lock on it. It goes
+    /// over the ranges once, and takes memory for that part alone. Idea: log-based coherency (Feeley et al., OSDI
+    /// 1994).
     pub fn part(&self, alloc: Global, segment: u32) -> Result<Option<Part>, AllocError>
         ensures part { IfOk result (λ part. part ≡ part_of segment self.now) }
         ensures none { (result ≡ Ok None) ↔ (number_in segment self.now.locks ≡ None) }
@@ -205,7 +206,8 @@ impl<'a> View<'a> {
 
     // The words of the ranges, and all after them.
     fn ranges(&self) -> &'a [u64]
-        ensures { (rest : List ℕ) × (ranges_at (version_of self.now.ranges) (length self.now.ranges) result.now ≡ Some (self.now.ranges, rest)) }
+        ensures { (rest : List ℕ) × (ranges_at (version_of self.now.ranges) (length self.now.ranges) result.now
+            ≡ Some (self.now.ranges, rest)) }
     {
         &self.words[self.front_words()..]
     }

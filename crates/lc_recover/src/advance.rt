@@ -1,11 +1,13 @@
 //! From one step of a recovery to the next.
-ghost use Rattle.std.specs.Prelude.{◌≡◌, ◌≢◌, ◌+◌, ◌*◌, ◌<◌, ◌≤◌, ◌⊎◌, ℕ, List, Some, None, false, true, length, map, IfOk, IfErr, OnOk, is_ok};
+ghost use Rattle.std.specs.Prelude.{◌≡◌, ◌≢◌, ◌+◌, ◌*◌, ◌<◌, ◌≤◌, ◌⊎◌, ℕ, List, Some, None, false, true, length, map};
+ghost use Rattle.std.specs.Prelude.{IfOk, IfErr, OnOk, is_ok};
 ghost use Rattle.lc_record.specs.Content.{Content};
 ghost use Rattle.lc_recover.specs.Fault.{IsRefusal};
 ghost use Rattle.lc_recover.specs.KeptAreas.{IsReadWhole, read_count};
 ghost use Rattle.lc_recover.specs.Merging.{IsMergedStage};
 ghost use Rattle.lc_recover.specs.Reads.{AreHonest, AllMergeTo, store_of};
-ghost use Rattle.lc_recover.specs.Recovery.{begun, recovering, HasPageToWrite, Renews, IsGoing, IsMerged, IsMergeNext, MakesItsCall, MergesRead, RefusesRead, TakesMemory};
+ghost use Rattle.lc_recover.specs.Recovery.{begun, recovering, HasPageToWrite, Renews, IsGoing, IsMerged, IsMergeNext};
+ghost use Rattle.lc_recover.specs.Recovery.{MakesItsCall, MergesRead, RefusesRead, TakesMemory};
 ghost use Rattle.lc_recover.specs.Stopped.{IsStopped};
 ghost use Rattle.lc_recover.specs.RecoveryPhase.{AreasFit, Fits};
 ghost use Rattle.lc_recover.specs.Steps.{first_steps, steps_of, all_pages, pages_in, HasNext, IsOver};
@@ -40,7 +42,8 @@ pub(crate) fn advance<D: Area>(
     ensures stopped { IfErr result (λ stopped. IsGoing D.Area geometry.now stopped.stage areas.new) }
     ensures steps { IfOk result (λ next. steps_of geometry.now next ≡ steps_of geometry.now stage + 1) }
     ensures pages { IfOk result (λ next. (pages : ℕ) → pages_in stage ≡ Some pages → pages_in next ≡ Some pages) }
-    ensures keeps { IfOk result (λ next. (IsMergeNext (recovering geometry.now areas.old stage) → ⊥) → AreHonest D.Area areas.new
+    ensures keeps { IfOk result (λ next. (IsMergeNext (recovering geometry.now areas.old stage) → ⊥)
+        → AreHonest D.Area areas.new
         → Renews D.Area (recovering geometry.now areas.old stage) (recovering geometry.now areas.new next)) }
     ensures no_memory { IfErr result (λ stopped. stopped.fault ≡ NoMemory
         → TakesMemory (recovering geometry.now areas.old stage)
@@ -50,21 +53,29 @@ pub(crate) fn advance<D: Area>(
     ensures called { OnOk result ((IsMergeNext (recovering geometry.now areas.old stage) → ⊥)
         → MakesItsCall D.Area (recovering geometry.now areas.old stage) areas.new true) }
     ensures failed { IfErr result (λ stopped. (IsMergeNext (recovering geometry.now areas.old stage) → ⊥)
-        → (stopped.fault ≡ NoMemory) ⊎ ((stopped.fault ≡ Failed) × MakesItsCall D.Area (recovering geometry.now areas.old stage) areas.new false)) }
+        → (stopped.fault ≡ NoMemory)
+        ⊎ ((stopped.fault ≡ Failed) × MakesItsCall D.Area (recovering geometry.now areas.old stage) areas.new false)) }
     ensures no_call { IsMergeNext (recovering geometry.now areas.old stage) → areas.new ≡ areas.old }
     ensures reads { steps_of geometry.now stage + 1 < first_steps geometry.now → AreHonest D.Area areas.old
         → map D.now areas.new ≡ map D.now areas.old }
-    ensures merged { IfOk result (λ next. IsMergeNext (recovering geometry.now areas.old stage) → AreHonest D.Area areas.old
+    ensures merged { IfOk result (λ next. IsMergeNext (recovering geometry.now areas.old stage)
+        → AreHonest D.Area areas.old
         → IsMerged D.Area (recovering geometry.now areas.old next)) }
-    ensures refused { IfErr result (λ stopped. IsMergeNext (recovering geometry.now areas.old stage) → AreHonest D.Area areas.old
+    ensures refused { IfErr result (λ stopped. IsMergeNext (recovering geometry.now areas.old stage)
+        → AreHonest D.Area areas.old
         → IsRefusal (store_of geometry.now (map D.now areas.old)) stopped.fault) }
-    ensures told { IfOk result (λ next. IsMergeNext (recovering geometry.now areas.old stage) → MergesRead geometry.now) }
-    ensures told_refused { IfErr result (λ stopped. IsMergeNext (recovering geometry.now areas.old stage) → RefusesRead geometry.now stopped.fault) }
-    ensures merge_fault { IfErr result (λ stopped. IsMergeNext (recovering geometry.now areas.old stage) → stopped.fault ≢ Failed) }
-    ensures no_memory_merged { IfErr result (λ stopped. stopped.fault ≡ NoMemory → IsMergeNext (recovering geometry.now areas.old stage)
+    ensures told { IfOk result (λ next. IsMergeNext (recovering geometry.now areas.old stage)
+        → MergesRead geometry.now) }
+    ensures told_refused { IfErr result (λ stopped. IsMergeNext (recovering geometry.now areas.old stage)
+        → RefusesRead geometry.now stopped.fault) }
+    ensures merge_fault { IfErr result (λ stopped. IsMergeNext (recovering geometry.now areas.old stage)
+        → stopped.fault ≢ Failed) }
+    ensures no_memory_merged { IfErr result (λ stopped. stopped.fault ≡ NoMemory
+        → IsMergeNext (recovering geometry.now areas.old stage)
         → AreHonest D.Area areas.old → HasPageToWrite (store_of geometry.now (map D.now areas.old))) }
     ensures merges { (content : Content) (numbers : ℕ → ℕ) → AreHonest D.Area areas.new
-        → AllMergeTo D.Area geometry.now areas.old content numbers → AllMergeTo D.Area geometry.now areas.new content numbers }
+        → AllMergeTo D.Area geometry.now areas.old content numbers
+        → AllMergeTo D.Area geometry.now areas.new content numbers }
 {
     match stage {
         RecoveryPhase::Syncing(synced) => Ok(sync_step(alloc, geometry, areas, synced)?),
@@ -93,12 +104,15 @@ pub(crate) fn sync_step<D: Area>(
     ensures steps { IfOk result (λ stage. steps_of geometry.now stage ≡ synced + 1) }
     ensures pages { IfOk result (λ stage. pages_in stage ≡ None) }
     ensures keeps { IfOk result (λ next. AreHonest D.Area areas.new
-        → Renews D.Area (recovering geometry.now areas.old (RecoveryPhase.Syncing synced)) (recovering geometry.now areas.new next)) }
+        → Renews D.Area (recovering geometry.now areas.old (RecoveryPhase.Syncing synced))
+        (recovering geometry.now areas.new next)) }
     ensures areas { AreasFit D.Area geometry.now (RecoveryPhase.Syncing 0) areas.new }
-    ensures call { MakesItsCall D.Area (recovering geometry.now areas.old (RecoveryPhase.Syncing synced)) areas.new (is_ok result) }
+    ensures call { MakesItsCall D.Area (recovering geometry.now areas.old (RecoveryPhase.Syncing synced)) areas.new
+        (is_ok result) }
     ensures reads { AreHonest D.Area areas.old → map D.now areas.new ≡ map D.now areas.old }
     ensures merges { (content : Content) (numbers : ℕ → ℕ) → AreHonest D.Area areas.new
-        → AllMergeTo D.Area geometry.now areas.old content numbers → AllMergeTo D.Area geometry.now areas.new content numbers }
+        → AllMergeTo D.Area geometry.now areas.old content numbers
+        → AllMergeTo D.Area geometry.now areas.new content numbers }
 {
     sync_area(geometry, areas, synced)?;
     if synced + 1 < areas.len() {
@@ -118,17 +132,22 @@ pub(crate) fn read_step<D: Area>(
     requires left { read_count read < length areas.old }
     ensures fits { IfOk result (λ stage. Fits D.Area geometry.now stage areas.new) }
     ensures next { IfOk result (HasNext geometry.now) }
-    ensures steps { IfOk result (λ stage. steps_of geometry.now stage ≡ steps_of geometry.now (RecoveryPhase.Reading read) + 1) }
+    ensures steps { IfOk result (λ stage. steps_of geometry.now stage
+        ≡ steps_of geometry.now (RecoveryPhase.Reading read) + 1) }
     ensures pages { IfOk result (λ stage. pages_in stage ≡ None) }
     ensures keeps { IfOk result (λ next. AreHonest D.Area areas.new
-        → Renews D.Area (recovering geometry.now areas.old (RecoveryPhase.Reading read)) (recovering geometry.now areas.new next)) }
+        → Renews D.Area (recovering geometry.now areas.old (RecoveryPhase.Reading read))
+        (recovering geometry.now areas.new next)) }
     ensures stopped { IfErr result (IsStopped D.Area geometry.now (RecoveryPhase.Reading read) areas.old areas.new) }
-    ensures call { IfOk result (λ stage. MakesItsCall D.Area (recovering geometry.now areas.old (RecoveryPhase.Reading read)) areas.new true) }
+    ensures call { IfOk result (λ stage.
+        MakesItsCall D.Area (recovering geometry.now areas.old (RecoveryPhase.Reading read)) areas.new true) }
     ensures fault { IfErr result (λ stopped. (stopped.fault ≡ NoMemory)
-        ⊎ ((stopped.fault ≡ Failed) × MakesItsCall D.Area (recovering geometry.now areas.old (RecoveryPhase.Reading read)) areas.new false)) }
+        ⊎ ((stopped.fault ≡ Failed)
+        × MakesItsCall D.Area (recovering geometry.now areas.old (RecoveryPhase.Reading read)) areas.new false)) }
     ensures reads { AreHonest D.Area areas.old → map D.now areas.new ≡ map D.now areas.old }
     ensures merges { (content : Content) (numbers : ℕ → ℕ) → AreHonest D.Area areas.new
-        → AllMergeTo D.Area geometry.now areas.old content numbers → AllMergeTo D.Area geometry.now areas.new content numbers }
+        → AllMergeTo D.Area geometry.now areas.old content numbers
+        → AllMergeTo D.Area geometry.now areas.new content numbers }
 {
     let mut read = read;
     match read_area(alloc, geometry, areas, &mut read) {
@@ -149,13 +168,17 @@ pub(crate) fn merge_step<D: Area>(
     requires all { read_count read ≡ length areas.now }
     ensures fits { IfOk result (λ stage. Fits D.Area geometry.now stage areas.now) }
     ensures next { IfOk result (HasNext geometry.now) }
-    ensures steps { IfOk result (λ stage. steps_of geometry.now stage ≡ steps_of geometry.now (RecoveryPhase.Reading read) + 1) }
-    ensures merged { IfOk result (λ stage. (bytes : List (List ℕ)) → IsReadWhole geometry.now bytes read → IsMergedStage geometry.now bytes stage) }
-    ensures few { IfOk result (λ stage. (pages : ℕ) → pages_in stage ≡ Some pages → pages ≤ geometry.now.segments * geometry.now.pages) }
+    ensures steps { IfOk result (λ stage. steps_of geometry.now stage
+        ≡ steps_of geometry.now (RecoveryPhase.Reading read) + 1) }
+    ensures merged { IfOk result (λ stage. (bytes : List (List ℕ)) → IsReadWhole geometry.now bytes read
+        → IsMergedStage geometry.now bytes stage) }
+    ensures few { IfOk result (λ stage. (pages : ℕ) → pages_in stage ≡ Some pages
+        → pages ≤ geometry.now.segments * geometry.now.pages) }
     ensures stopped { IfErr result (IsStopped D.Area geometry.now (RecoveryPhase.Reading read) areas.now areas.now) }
     ensures refused { IfErr result (λ stopped. (bytes : List (List ℕ)) → IsReadWhole geometry.now bytes read
         → IsRefusal (store_of geometry.now bytes) stopped.fault) }
-    ensures no_memory { IfErr result (λ stopped. stopped.fault ≡ NoMemory → (bytes : List (List ℕ)) → IsReadWhole geometry.now bytes read
+    ensures no_memory { IfErr result (λ stopped. stopped.fault ≡ NoMemory → (bytes : List (List ℕ))
+        → IsReadWhole geometry.now bytes read
         → HasPageToWrite (store_of geometry.now bytes)) }
 {
     let mut read = read;
@@ -174,14 +197,18 @@ pub(crate) fn write_step<D: Area>(
     requires fits { Fits D.Area geometry.now (RecoveryPhase.Writing writes) areas.old }
     ensures fits { IfOk result (λ stage. Fits D.Area geometry.now stage areas.new) }
     ensures next { IfOk result (HasNext geometry.now) }
-    ensures steps { IfOk result (λ stage. steps_of geometry.now stage ≡ steps_of geometry.now (RecoveryPhase.Writing writes) + 1) }
+    ensures steps { IfOk result (λ stage. steps_of geometry.now stage
+        ≡ steps_of geometry.now (RecoveryPhase.Writing writes) + 1) }
     ensures pages { IfOk result (λ stage. pages_in stage ≡ Some (all_pages writes)) }
     ensures keeps { IfOk result (λ next. AreHonest D.Area areas.new
-        → Renews D.Area (recovering geometry.now areas.old (RecoveryPhase.Writing writes)) (recovering geometry.now areas.new next)) }
+        → Renews D.Area (recovering geometry.now areas.old (RecoveryPhase.Writing writes))
+        (recovering geometry.now areas.new next)) }
     ensures areas { AreasFit D.Area geometry.now (RecoveryPhase.Syncing 0) areas.new }
-    ensures call { MakesItsCall D.Area (recovering geometry.now areas.old (RecoveryPhase.Writing writes)) areas.new (is_ok result) }
+    ensures call { MakesItsCall D.Area (recovering geometry.now areas.old (RecoveryPhase.Writing writes)) areas.new
+        (is_ok result) }
     ensures merges { (content : Content) (numbers : ℕ → ℕ) → AreHonest D.Area areas.new
-        → AllMergeTo D.Area geometry.now areas.old content numbers → AllMergeTo D.Area geometry.now areas.new content numbers }
+        → AllMergeTo D.Area geometry.now areas.old content numbers
+        → AllMergeTo D.Area geometry.now areas.new content numbers }
 {
     let mut writes = writes;
     if writes.next == writes.merged.changes.len() {
@@ -222,14 +249,18 @@ pub(crate) fn reset_step<D: Area>(
     requires left { resets.next < geometry.now.nodes }
     ensures fits { IfOk result (λ stage. Fits D.Area geometry.now stage areas.new) }
     ensures next { IfOk result (HasNext geometry.now) }
-    ensures steps { IfOk result (λ stage. steps_of geometry.now stage ≡ steps_of geometry.now (RecoveryPhase.Resetting resets) + 1) }
+    ensures steps { IfOk result (λ stage. steps_of geometry.now stage
+        ≡ steps_of geometry.now (RecoveryPhase.Resetting resets) + 1) }
     ensures pages { IfOk result (λ stage. pages_in stage ≡ Some resets.written) }
     ensures keeps { IfOk result (λ next. AreHonest D.Area areas.new
-        → Renews D.Area (recovering geometry.now areas.old (RecoveryPhase.Resetting resets)) (recovering geometry.now areas.new next)) }
+        → Renews D.Area (recovering geometry.now areas.old (RecoveryPhase.Resetting resets))
+        (recovering geometry.now areas.new next)) }
     ensures areas { AreasFit D.Area geometry.now (RecoveryPhase.Syncing 0) areas.new }
-    ensures call { MakesItsCall D.Area (recovering geometry.now areas.old (RecoveryPhase.Resetting resets)) areas.new (is_ok result) }
+    ensures call { MakesItsCall D.Area (recovering geometry.now areas.old (RecoveryPhase.Resetting resets)) areas.new
+        (is_ok result) }
     ensures merges { (content : Content) (numbers : ℕ → ℕ) → AreHonest D.Area areas.new
-        → AllMergeTo D.Area geometry.now areas.old content numbers → AllMergeTo D.Area geometry.now areas.new content numbers }
+        → AllMergeTo D.Area geometry.now areas.old content numbers
+        → AllMergeTo D.Area geometry.now areas.new content numbers }
 {
     let mut resets = resets;
     reset_next(geometry, areas, &mut resets)?;

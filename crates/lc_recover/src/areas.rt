@@ -31,7 +31,8 @@ pub fn area_len(geometry: &Geometry, area: usize) -> Option<usize>
 
 /// The least index at which there is no area of the right length, or one where there should be none.
 pub(crate) fn first_wrong<D: Area>(geometry: &Geometry, areas: &[D]) -> Option<usize>
-    ensures wrong { IfSome result (IsLeast (λ area. slice_get (map (λ d. length (D.now d)) areas.now) area ≢ area_len geometry.now area)) }
+    ensures wrong { IfSome result (IsLeast (λ area. slice_get (map (λ d. length (D.now d)) areas.now) area
+        ≢ area_len geometry.now area)) }
     ensures few { IfSome result (λ area. area ≤ area_count geometry.now) }
     ensures right { IfNone result (HaveLengths D.Area geometry.now areas.now) }
     ensures bytes { IfNone result (AreOfBytes D.Area areas.now) }

@@ -7,12 +7,12 @@ use lc_model::Refusal;
 use std::alloc::AllocError;
 use thiserror::Error;
 
-/// Why a recovery does not go on. After `NoMemory` the same step may be tried again, after any other fault the next step
-/// begins again with the first sync. This project's own.
+/// Why a recovery does not go on. After `NoMemory` the same step may be tried again, after any other fault the next
+/// step begins again with the first sync.
 #[derive(Clone, Copy, Debug, PartialEq, Eq, Error)]
 pub enum RecoverFault {
-    /// The length of an area is not that of the geometry, there is no such area or one too many, or a record of this log
-    /// names another node.
+    /// The length of an area is not that of the geometry, there is no such area or one too many, or a record of this
+    /// log names another node.
     #[error("area {area} does not fit the geometry")]
     BadGeometry { area: u32 },
     /// No record has this number of the segment, and one has a greater one.
@@ -49,7 +49,8 @@ impl RecoverFault {
         }
     }
 
-    /// The refusal with which a store answers the fault: that of the same name and fields. Want of memory is no refusal.
+    /// The refusal with which a store answers the fault: that of the same name and fields. Want of memory is no
+    /// refusal.
     pub fn refusal(self) -> Option<Refusal>
         ensures { result ≡ refusal_to self }
     {

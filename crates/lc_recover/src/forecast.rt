@@ -11,7 +11,7 @@ use lc_record::Geometry;
 use std::marker::Model;
 
 /// What a recovery of a store would make of it, from the merge of what was read: the number of each segment, the pages
-/// that it would write, and the bytes of every page after it. Nothing is written. This project's own.
+/// that it would write, and the bytes of every page after it. Nothing is written.
 #[derive(Drop)]
 pub struct Forecast {
     geometry: Geometry,
@@ -62,7 +62,8 @@ impl Forecast {
         requires first { 1 ≤ segment }
         requires last { segment ≤ self.now.geometry.segments }
         requires page { page < self.now.geometry.pages }
-        ensures bytes { (content : Content) (numbers : ℕ → ℕ) → MergesTo self.now.store content numbers → result ≡ page_bytes segment page content }
+        ensures bytes { (content : Content) (numbers : ℕ → ℕ) → MergesTo self.now.store content numbers
+            → result ≡ page_bytes segment page content }
     {
         let pages = &self.writes.kept.segments[segment as usize - 1];
         let mut bytes = [0; PAGE_BYTES];

@@ -1,5 +1,6 @@
 //! The index of the changes: which ranges are to be put on which pages.
-ghost use Rattle.std.specs.Prelude.{◌≡◌, ◌⊎◌, ℕ, ◌+◌, ◌*◌, ◌<◌, ◌≤◌, [], ◌∷◌, ◌++◌, List, All, Contains, IfOk, OnErr, length, map};
+ghost use Rattle.std.specs.Prelude.{◌≡◌, ◌⊎◌, ℕ, ◌+◌, ◌*◌, ◌<◌, ◌≤◌, [], ◌∷◌, ◌++◌, List, All, Contains, IfOk, OnErr};
+ghost use Rattle.std.specs.Prelude.{length, map};
 ghost use Rattle.lc_record.specs.Newest.{number_or_zero};
 ghost use Rattle.lc_record.specs.Record.{IsCanonical};
 ghost use Rattle.lc_page.specs.PageVector.{entry_at};
@@ -7,7 +8,8 @@ ghost use Rattle.lc_recover.specs.Pages.{kept_pages};
 ghost use Rattle.lc_recover.specs.StoreContents.{IsIndex};
 ghost use Rattle.lc_recover.specs.Reading.{store_of};
 ghost use Rattle.lc_recover.specs.declared.redo_range.RedoRange.{RedoRange};
-ghost use Rattle.lc_recover.specs.Changes.{Adds, AreOf, Covers, HasOf, IsOf, IsOnRange, PlacedRecord, SomeIsOf, Touches, on_page, seat, seats_from, seats_of};
+ghost use Rattle.lc_recover.specs.Changes.{Adds, AreOf, Covers, HasOf, IsOf, IsOnRange, PlacedRecord, SomeIsOf};
+ghost use Rattle.lc_recover.specs.Changes.{Touches, on_page, seat, seats_from, seats_of};
 
 use crate::page_count::{PAGE_LEN, pages_of};
 use crate::record_cursor::records_of;
@@ -40,7 +42,8 @@ fn changes_of(
     segments: &[SegmentPages],
 ) -> Result<Vec<RedoRange>, AllocError>
     requires { All (λ (s : SegmentPages). length s.texts ≤ 1024) segments.now }
-    ensures changes { IfOk result (λ changes. AreOf (map kept_pages segments.now) (seats_from 0 logs.now) changes.items) }
+    ensures changes { IfOk result (λ changes.
+        AreOf (map kept_pages segments.now) (seats_from 0 logs.now) changes.items) }
     ensures memory { OnErr result (SomeIsOf (map kept_pages segments.now) (seats_from 0 logs.now)) }
 {
     let mut changes = Vec::new(alloc);
@@ -57,8 +60,9 @@ fn add_log(
     segments: &[SegmentPages],
 ) -> Result<(), AllocError>
     requires { All (λ (s : SegmentPages). length s.texts ≤ 1024) segments.now }
-    ensures changes { IfOk result (λ _. (seats : List PlacedRecord) → AreOf (map kept_pages segments.now) seats changes.old.items →
-        AreOf (map kept_pages segments.now) (seats ++ seats_of log words.now) changes.new.items) }
+    ensures changes { IfOk result (λ _. (seats : List PlacedRecord)
+        → AreOf (map kept_pages segments.now) seats changes.old.items
+        → AreOf (map kept_pages segments.now) (seats ++ seats_of log words.now) changes.new.items) }
     ensures memory { OnErr result (SomeIsOf (map kept_pages segments.now) (seats_of log words.now)) }
 {
     for (place, view) in records_of(words) {
@@ -76,8 +80,10 @@ fn add_record(
 ) -> Result<(), AllocError>
     requires canonical { IsCanonical view.now }
     requires few_pages { All (λ (s : SegmentPages). length s.texts ≤ 1024) segments.now }
-    ensures adds { IfOk result (λ _. Adds (IsOf (map kept_pages segments.now) (seat log place view.now)) changes.old.items changes.new.items) }
-    ensures covers { IfOk result (λ _. Covers (map kept_pages segments.now) (seat log place view.now) changes.new.items) }
+    ensures adds { IfOk result (λ _. Adds
+        (IsOf (map kept_pages segments.now) (seat log place view.now)) changes.old.items changes.new.items) }
+    ensures covers { IfOk result (λ _. Covers (map kept_pages segments.now)
+        (seat log place view.now) changes.new.items) }
     ensures memory { OnErr result (HasOf (map kept_pages segments.now) (seat log place view.now)) }
 {
     for placed in view.spans() {

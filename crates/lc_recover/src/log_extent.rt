@@ -1,6 +1,6 @@
 //! How much of a log is taken.
 
-/// How many records a log has, and how many words they take, from its front on. This project's own.
+/// How many records a log has, and how many words they take, from its front on.
 #[derive(Clone, Copy, Debug, PartialEq, Eq)]
 pub struct LogExtent {
     /// How many records there are.

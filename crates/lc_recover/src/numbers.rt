@@ -15,7 +15,8 @@ const SEGMENTS: usize = MAX_SEGMENT as usize;
 /// Refuses the least number of a segment that stands twice among these, which are in order.
 pub(crate) fn once(numbers: &[LockNumber]) -> Result<(), RecoverFault>
     requires { AreInOrder numbers.now }
-    ensures twice { IfErr result (λ fault. (segment : ℕ) × (seq : ℕ) × (fault ≡ Twice segment seq) × IsLeastPair (StandsTwice numbers.now) segment seq) }
+    ensures twice { IfErr result (λ fault. (segment : ℕ) × (seq : ℕ) × (fault ≡ Twice segment seq)
+        × IsLeastPair (StandsTwice numbers.now) segment seq) }
     ensures once { OnOk result ((segment seq : ℕ) → StandsTwice numbers.now segment seq → ⊥) }
 {
     for index in 1..numbers.len() {
@@ -48,7 +49,8 @@ pub(crate) fn counted(kept: &[u64], numbers: &[LockNumber]) -> Result<[u64; SEGM
     requires order { AreInOrder numbers.now }
     requires each { All (λ (n : LockNumber). (1 ≤ n.segment) × (n.segment ≤ length kept.now)) numbers.now }
     requires few { All (λ (n : LockNumber). n.seq ≤ 2 ^ 60) numbers.now }
-    ensures gap { IfErr result (λ fault. (segment : ℕ) × (seq : ℕ) × (fault ≡ Gap segment seq) × IsLeastPair (IsMissing kept.now numbers.now) segment seq) }
+    ensures gap { IfErr result (λ fault. (segment : ℕ) × (seq : ℕ) × (fault ≡ Gap segment seq)
+        × IsLeastPair (IsMissing kept.now numbers.now) segment seq) }
     ensures counted { IfOk result (λ counts. IsNumbering kept.now numbers.now (take (length kept.now) counts)) }
 {
     let mut counts = [0; SEGMENTS];
@@ -62,7 +64,8 @@ fn count_up(counts: &mut [u64], numbers: &[LockNumber]) -> Result<(), RecoverFau
     requires order { AreInOrder numbers.now }
     requires each { All (λ (n : LockNumber). (1 ≤ n.segment) × (n.segment ≤ length counts.old)) numbers.now }
     requires few { All (λ (n : LockNumber). n.seq ≤ 2 ^ 60) numbers.now }
-    ensures gap { IfErr result (λ fault. (segment : ℕ) × (seq : ℕ) × (fault ≡ Gap segment seq) × IsLeastPair (IsMissing counts.old numbers.now) segment seq) }
+    ensures gap { IfErr result (λ fault. (segment : ℕ) × (seq : ℕ) × (fault ≡ Gap segment seq)
+        × IsLeastPair (IsMissing counts.old numbers.now) segment seq) }
     ensures counted { OnOk result (IsNumbering counts.old numbers.now counts.new) }
 {
     for number in numbers {

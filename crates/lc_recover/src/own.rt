@@ -15,7 +15,8 @@ use lc_record::Items;
 /// Refuses the first log with a record of another node than the one of the log's number.
 pub(crate) fn own(logs: &[Items<u64>]) -> Result<(), RecoverFault>
     requires { length logs.now ≤ 8 }
-    ensures refused { IfErr result (λ fault. (segments : List SegmentPages) → IsRefusal (store_of logs.now segments) fault) }
+    ensures refused { IfErr result (λ fault. (segments : List SegmentPages)
+        → IsRefusal (store_of logs.now segments) fault) }
     ensures named { IfErr result (λ fault. fault ≢ NoMemory) }
     ensures own { OnOk result ((segments : List SegmentPages) → AreOwn (store_of logs.now segments)) }
 {

@@ -1,5 +1,6 @@
 //! The bytes of one page: the ranges that are newer than it are put on it, in the order of their numbers.
-ghost use Rattle.std.specs.Prelude.{◌≡◌, ℕ, ◌*◌, ◌+◌, ◌<◌, [], List, All, length, take, drop, slice_get, slice_index_or};
+ghost use Rattle.std.specs.Prelude.{◌≡◌, ℕ, ◌*◌, ◌+◌, ◌<◌, [], List, All, length, take, drop, slice_get};
+ghost use Rattle.std.specs.Prelude.{slice_index_or};
 ghost use Rattle.std.specs.Option.{option_or};
 ghost use Rattle.lc_record.specs.Newest.{byte_from};
 ghost use Rattle.lc_record.specs.Words.{bytes_of};
@@ -41,8 +42,9 @@ pub(crate) fn changes_of(changes: &[RedoRange], segment: u32, page: u32) -> &[Re
 pub(crate) fn put_changes(logs: &[Items<u64>], changes: &[RedoRange], bytes: &mut [u8])
     requires { length bytes.old ≡ 256 }
     ensures len { length bytes.new ≡ 256 }
-    ensures put { (ranges : List RangeData) (segment page : ℕ) → AreAt logs.now changes.now ranges → All (IsOf segment page) changes.now →
-        (offset : ℕ) → offset < 256 → slice_get bytes.new offset ≡ byte_with segment page ranges bytes.old offset }
+    ensures put { (ranges : List RangeData) (segment page : ℕ) → AreAt logs.now changes.now ranges
+        → All (IsOf segment page) changes.now
+        → (offset : ℕ) → offset < 256 → slice_get bytes.new offset ≡ byte_with segment page ranges bytes.old offset }
 {
     for change in changes {
         put_change(logs, change, bytes);
@@ -54,7 +56,10 @@ fn put_change(logs: &[Items<u64>], change: &RedoRange, bytes: &mut [u8])
     requires { length bytes.old ≡ 256 }
     ensures len { length bytes.new ≡ 256 }
     ensures put { (offset : ℕ) → offset < 256 → slice_get bytes.new offset ≡ option_or
-        (byte_from change.now.offset (take change.now.len (bytes_of (drop change.now.words (drop change.now.place (slice_index_or logs.now change.now.log []))))) (change.now.page * 256 + offset))
+        (byte_from change.now.offset
+        (take change.now.len (bytes_of
+        (drop change.now.words (drop change.now.place (slice_index_or logs.now change.now.log [])))))
+        (change.now.page * 256 + offset))
         (slice_get bytes.old offset) }
 {
     let Some(log) = logs.get(change.log) else {

@@ -1,11 +1,12 @@
 //! What the bytes of a page are made of.
 ghost use Rattle.std.specs.Prelude.{List};
 ghost use Rattle.lc_recover.specs.declared.redo_range.RedoRange.{RedoRange};
-ghost use Rattle.lc_recover.specs.Page.{PagesMerge, RangesStand, TakenPageByPage, pages_of, AreListed, AreDifferent, BeginWithTheFirst};
+ghost use Rattle.lc_recover.specs.Page.{PagesMerge, RangesStand, TakenPageByPage, pages_of, AreListed, AreDifferent};
+ghost use Rattle.lc_recover.specs.Page.{BeginWithTheFirst};
 
-/// The ranges of a page's changes, put on its bytes one after another, make of each byte that of the record with the
-/// greatest number among those that cover it and are newer than the page, or the page's where there is none; and there
-/// are such ranges.
+/// The ranges of a page's changes are put on its bytes one after another. That makes of each byte that of the record
+/// with the greatest number among those that cover it and are newer than the page, or the page's where there is none.
+/// There are such ranges.
 pub(crate) fn page_merged()
     ensures merged { PagesMerge }
     ensures stand { RangesStand }

@@ -1,5 +1,6 @@
 //! The steps that write pages.
-ghost use Rattle.std.specs.Prelude.{◌≡◌, ◌≢◌, ◌∷◌, drop, ◌+◌, ◌*◌, ◌<◌, ◌≤◌, ℕ, Some, None, IfOk, OnOk, length, is_ok, true, false, slice_get, slice_index_or};
+ghost use Rattle.std.specs.Prelude.{◌≡◌, ◌≢◌, ◌∷◌, drop, ◌+◌, ◌*◌, ◌<◌, ◌≤◌, ℕ, Some, None, IfOk, OnOk, length, is_ok};
+ghost use Rattle.std.specs.Prelude.{true, false, slice_get, slice_index_or};
 ghost use Rattle.lc_log.specs.OneCall.{IsOneCall};
 ghost use Rattle.lc_page.specs.Page.{Page, page_in};
 ghost use Rattle.lc_page.specs.PageVector.{entry_at, entry_text};
@@ -33,14 +34,16 @@ pub(crate) fn write_next<D: Area>(
     requires left { writes.old.next < length writes.old.merged.changes.items }
     ensures fits { OnOk result (Fits D.Area geometry.now (RecoveryPhase.Writing writes.new) areas.new) }
     ensures areas { AreasFit D.Area geometry.now (RecoveryPhase.Syncing 0) areas.new }
-    ensures call { (place : ℕ) × (geometry.now.nodes ≤ place) × OneCall D.Area place areas.old areas.new (is_ok result) }
+    ensures call { (place : ℕ) × (geometry.now.nodes ≤ place)
+        × OneCall D.Area place areas.old areas.new (is_ok result) }
     // After a fault too.
     ensures shows { (i : IsWriting geometry.now writes.old) → AreHonest D.Area areas.new
         → ShowPages D.Area geometry.now areas.new i.store i.content i.numbers }
     ensures steps { OnOk result (writes_done writes.new ≡ writes_done writes.old + 1) }
     ensures pages { OnOk result (all_pages writes.new ≡ all_pages writes.old) }
     ensures keeps { OnOk result (AreHonest D.Area areas.new
-        → Renews D.Area (recovering geometry.now areas.old (RecoveryPhase.Writing writes.old)) (recovering geometry.now areas.new (RecoveryPhase.Writing writes.new))) }
+        → Renews D.Area (recovering geometry.now areas.old (RecoveryPhase.Writing writes.old))
+        (recovering geometry.now areas.new (RecoveryPhase.Writing writes.new))) }
 {
     let place = place_of(geometry, writes);
     match writes.current.take() {
@@ -61,8 +64,10 @@ fn begin_next<D: Area>(
     requires left { writes.now.next < length writes.now.merged.changes.items }
     requires none { writes.now.current ≡ None }
     requires within { place < length areas.old }
-    requires here { (c : RedoRange) (pages : SegmentPages) → IsNext writes.now c pages → place + 1 ≡ geometry.now.nodes + c.segment }
-    ensures fits { IfOk result (λ write. Fits D.Area geometry.now (RecoveryPhase.Writing (record writes.now { current = Some write })) areas.new) }
+    requires here { (c : RedoRange) (pages : SegmentPages) → IsNext writes.now c pages
+        → place + 1 ≡ geometry.now.nodes + c.segment }
+    ensures fits { IfOk result (λ write.
+        Fits D.Area geometry.now (RecoveryPhase.Writing (record writes.now { current = Some write })) areas.new) }
     ensures first { IfOk result (λ write. calls_of write ≡ 1) }
     ensures areas { AreasFit D.Area geometry.now (RecoveryPhase.Syncing 0) areas.new }
     ensures call { OneCall D.Area place areas.old areas.new (is_ok result) }
@@ -86,17 +91,20 @@ fn go_on_next<D: Area>(
     requires left { writes.old.next < length writes.old.merged.changes.items }
     requires none { writes.old.current ≡ None }
     requires within { place < length areas.old }
-    requires here { (c : RedoRange) (pages : SegmentPages) → IsNext writes.old c pages → place + 1 ≡ geometry.now.nodes + c.segment }
+    requires here { (c : RedoRange) (pages : SegmentPages) → IsNext writes.old c pages
+        → place + 1 ≡ geometry.now.nodes + c.segment }
     ensures fits { OnOk result (Fits D.Area geometry.now (RecoveryPhase.Writing writes.new) areas.new) }
     ensures areas { AreasFit D.Area geometry.now (RecoveryPhase.Syncing 0) areas.new }
     ensures call { OneCall D.Area place areas.old areas.new (is_ok result) }
     // After a fault too.
-    ensures shows { (i : IsWriting geometry.now (record writes.old { current = Some write })) → AreHonest D.Area areas.new
+    ensures shows { (i : IsWriting geometry.now (record writes.old { current = Some write }))
+        → AreHonest D.Area areas.new
         → ShowPages D.Area geometry.now areas.new i.store i.content i.numbers }
     ensures steps { OnOk result (writes_done writes.new ≡ 6 * writes.old.written + calls_of write + 1) }
     ensures pages { OnOk result (all_pages writes.new ≡ all_pages writes.old) }
     ensures keeps { OnOk result (AreHonest D.Area areas.new
-        → Renews D.Area (recovering geometry.now areas.old (RecoveryPhase.Writing writes.old)) (recovering geometry.now areas.new (RecoveryPhase.Writing writes.new))) }
+        → Renews D.Area (recovering geometry.now areas.old (RecoveryPhase.Writing writes.old))
+        (recovering geometry.now areas.new (RecoveryPhase.Writing writes.new))) }
 {
     let draft = *write.draft();
     writes.current = go_on(write, &mut areas[place])?;
@@ -110,7 +118,8 @@ fn go_on_next<D: Area>(
 fn place_of(geometry: &Geometry, writes: &PageWrites) -> usize
     requires sound { IsWriting geometry.now writes.now }
     requires left { writes.now.next < length writes.now.merged.changes.items }
-    ensures { (c : RedoRange) (pages : SegmentPages) → IsNext writes.now c pages → result + 1 ≡ geometry.now.nodes + c.segment }
+    ensures { (c : RedoRange) (pages : SegmentPages) → IsNext writes.now c pages
+        → result + 1 ≡ geometry.now.nodes + c.segment }
 {
     geometry.nodes as usize + writes.merged.changes[writes.next].segment as usize - 1
 }
@@ -124,11 +133,13 @@ fn begin_page<D: Area>(
     requires sound { IsWriting geometry.now writes.now }
     requires left { writes.now.next < length writes.now.merged.changes.items }
     requires room { length (D.now area.old) ≡ 2 * 272 * geometry.now.pages }
-    ensures drafted { IfOk result (λ write. (i : IsWriting geometry.now writes.now) (c : RedoRange) (pages : SegmentPages) → IsNext writes.now c pages
+    ensures drafted { IfOk result (λ write. (i : IsWriting geometry.now writes.now) (c : RedoRange)
+        (pages : SegmentPages) → IsNext writes.now c pages
         → IsDraft i.content i.numbers c (draft_of write)) }
     ensures begun { IfOk result (λ write. (c : RedoRange) (pages : SegmentPages) → IsNext writes.now c pages
         → SettledIn D.Area area.old c.page (entry_text (entry_at pages.texts c.page))
-        → IsUnderWay D.Area area.new write (entry_text (entry_at pages.texts c.page)) (page_in (D.now area.old) c.page)) }
+        → IsUnderWay D.Area area.new write (entry_text (entry_at pages.texts c.page))
+        (page_in (D.now area.old) c.page)) }
     ensures first { IfOk result (λ write. calls_of write ≡ 1) }
     // After a fault too.
     ensures page { (c : RedoRange) (pages : SegmentPages) → IsNext writes.now c pages
@@ -183,7 +194,8 @@ fn settle_page(geometry: &Geometry, writes: &mut PageWrites, draft: &Draft)
     ensures settled { IsSettledPage writes.old writes.new draft.now }
     ensures pages { all_pages writes.new ≡ all_pages writes.old }
     ensures left { (c : RedoRange) → slice_get writes.old.merged.changes.items writes.old.next ≡ Some c
-        → pages_of (drop writes.old.next writes.old.merged.changes.items) ≡ page_of c ∷ pages_of (drop writes.new.next writes.new.merged.changes.items) }
+        → pages_of (drop writes.old.next writes.old.merged.changes.items)
+        ≡ page_of c ∷ pages_of (drop writes.new.next writes.new.merged.changes.items) }
 {
     let changes = first_page(&writes.merged.changes[writes.next..]);
     let segment = changes[0].segment as usize - 1;

@@ -29,17 +29,21 @@ pub(crate) fn read_area<D: Area>(
 ) -> Result<(), RecoverFault>
     requires areas { AreasFit D.Area geometry.now (RecoveryPhase.Syncing 0) areas.old }
     requires left { read_count read.old < length areas.old }
-    ensures fits { OnOk result (Fits D.Area geometry.now (RecoveryPhase.Reading read.old) areas.old → Fits D.Area geometry.now (RecoveryPhase.Reading read.new) areas.new) }
-    ensures read { OnOk result (IsReadOf D.Area geometry.now areas.old read.old → IsReadOf D.Area geometry.now areas.new read.new) }
+    ensures fits { OnOk result (Fits D.Area geometry.now (RecoveryPhase.Reading read.old) areas.old
+        → Fits D.Area geometry.now (RecoveryPhase.Reading read.new) areas.new) }
+    ensures read { OnOk result (IsReadOf D.Area geometry.now areas.old read.old
+        → IsReadOf D.Area geometry.now areas.new read.new) }
     ensures next { OnOk result (read_count read.new ≡ read_count read.old + 1) }
     ensures no_memory { result ≡ Err NoMemory → (areas.new ≡ areas.old) × IsSameRead read.old read.new }
     ensures areas { AreasFit D.Area geometry.now (RecoveryPhase.Syncing 0) areas.new }
-    ensures call { (result ≡ Err NoMemory → ⊥) → OneCall D.Area (read_count read.old) areas.old areas.new (is_ok result) }
+    ensures call { (result ≡ Err NoMemory → ⊥)
+        → OneCall D.Area (read_count read.old) areas.old areas.new (is_ok result) }
     ensures honest { AreHonest D.Area areas.old → AreHonest D.Area areas.new }
     ensures left { AreLeftAs D.Area areas.old areas.new }
     ensures reads { AreHonest D.Area areas.old → map D.now areas.new ≡ map D.now areas.old }
     ensures merges { (content : Content) (numbers : ℕ → ℕ) → AreHonest D.Area areas.new
-        → AllMergeTo D.Area geometry.now areas.old content numbers → AllMergeTo D.Area geometry.now areas.new content numbers }
+        → AllMergeTo D.Area geometry.now areas.old content numbers
+        → AllMergeTo D.Area geometry.now areas.new content numbers }
     ensures fault { IfErr result (λ fault. (fault ≡ NoMemory) ⊎ (fault ≡ Failed)) }
 {
     let place = read.count();

@@ -8,8 +8,7 @@ use lc_page::PageText;
 use lc_record::Geometry;
 use std::marker::Model;
 
-/// What a recovery has made of a store: its areas with empty logs, the pages, and the number of each segment. This
-/// project's own.
+/// What a recovery has made of a store: its areas with empty logs, the pages, and the number of each segment.
 #[derive(Drop)]
 pub struct Recovered<D: Area> {
     geometry: Geometry,

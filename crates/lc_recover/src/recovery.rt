@@ -1,11 +1,15 @@
 //! The recovery of a store, step by step.
-ghost use Rattle.std.specs.Prelude.{[], ◌≡◌, ◌≢◌, ◌+◌, ◌*◌, ◌<◌, ◌≤◌, ◌↔◌, ◌⊎◌, ℕ, List, length, map, take, drop, false, true, Some, None, Err, IfOk, IfErr, OnOk, OnErr, IsTrue, is_ok, option_copied, slice_get};
+ghost use Rattle.std.specs.Prelude.{[], ◌≡◌, ◌≢◌, ◌+◌, ◌*◌, ◌<◌, ◌≤◌, ◌↔◌, ◌⊎◌, ℕ, List, length, map, take, drop};
+ghost use Rattle.std.specs.Prelude.{false, true, Some, None, Err, IfOk, IfErr, OnOk, OnErr, IsTrue, is_ok};
+ghost use Rattle.std.specs.Prelude.{option_copied, slice_get};
 ghost use Rattle.lc_model.specs.Merge.{IsLeast};
 ghost use Rattle.lc_record.specs.Content.{Content};
 ghost use Rattle.lc_recover.specs.Fault.{IsRefusal};
-ghost use Rattle.lc_recover.specs.Reads.{area_count, area_len, AreHonest, AreOfBytes, AllMergeTo, HaveLengths, store_of};
+ghost use Rattle.lc_recover.specs.Reads.{area_count, area_len, AreHonest, AreOfBytes, AllMergeTo, HaveLengths};
+ghost use Rattle.lc_recover.specs.Reads.{store_of};
 ghost use Rattle.lc_recover.specs.Steps.{first_steps};
-ghost use Rattle.lc_recover.specs.declared.fault.RecoverFault.TheVariants.{BadGeometry, NoMemory, DeviceFault as Failed};
+ghost use Rattle.lc_recover.specs.declared.fault.RecoverFault.TheVariants.{BadGeometry, NoMemory};
+ghost use Rattle.lc_recover.specs.declared.fault.RecoverFault.TheVariants.{DeviceFault as Failed};
 
 use crate::advance::advance;
 use crate::areas::first_wrong;
@@ -44,7 +48,9 @@ impl<D: Area> Model for Recovery<D> {
 
 impl<D: Area> Recovery<D> {
     ghost use Rattle.lc_recover.specs.Recovered.{AreFinished, IsMade, page_read};
-    ghost use Rattle.lc_recover.specs.Recovery.{Recovering, all_steps, begun, HasPageToWrite, IsDone, IsLast, IsMergeNext, IsMerged, IsReadFrom, MakesItsCall, MergesRead, RefusesRead, Renews, TakesMemory, Tells};
+    ghost use Rattle.lc_recover.specs.Recovery.{Recovering, all_steps, begun, HasPageToWrite, IsDone, IsLast};
+    ghost use Rattle.lc_recover.specs.Recovery.{IsMergeNext, IsMerged, IsReadFrom, MakesItsCall, MergesRead};
+    ghost use Rattle.lc_recover.specs.Recovery.{RefusesRead, Renews, TakesMemory, Tells};
 
     /// Begins the recovery of these areas. It takes no memory and calls no area. Where one has a length that is not
     /// that of the geometry, is missing, or is too many, the least such index is named, and the areas come back.
@@ -84,10 +90,12 @@ impl<D: Area> Recovery<D> {
         ensures honest_before { AreHonest D.Area self.new.areas → AreHonest D.Area self.old.areas }
         ensures progress { IfOk result (λ progress. Tells progress self.new) }
         ensures steps { OnOk result (self.new.steps ≡ self.old.steps + 1) }
-        ensures bound { self.new.steps ≤ all_steps self.new.geometry (self.new.geometry.segments * self.new.geometry.pages) }
+        ensures bound { self.new.steps ≤ all_steps self.new.geometry
+            (self.new.geometry.segments * self.new.geometry.pages) }
         ensures last { IfOk result (λ progress. IsDone self.new → IsLast self.old) }
         ensures no_memory { result ≡ Err NoMemory → TakesMemory self.old × (self.new ≡ self.old) }
-        ensures again { IfErr result (λ fault. (fault ≡ NoMemory → ⊥) → self.new ≡ begun self.old.geometry self.new.areas) }
+        ensures again { IfErr result (λ fault. (fault ≡ NoMemory → ⊥)
+            → self.new ≡ begun self.old.geometry self.new.areas) }
 
         // One call, or none.
         ensures call { (IsMergeNext self.old → ⊥) → (result ≡ Err NoMemory → ⊥)
@@ -101,7 +109,8 @@ impl<D: Area> Recovery<D> {
 
         // The merge of what the areas read as is refused just where it has to be. What was read of an area that is not
         // honest may be anything.
-        ensures merged { OnOk result (IsMergeNext self.old → AreHonest D.Area self.old.areas → IsMerged D.Area self.new) }
+        ensures merged { OnOk result (IsMergeNext self.old → AreHonest D.Area self.old.areas
+            → IsMerged D.Area self.new) }
         ensures refused { IfErr result (λ fault. IsMergeNext self.old → AreHonest D.Area self.old.areas
             → IsRefusal (store_of self.old.geometry (map D.now self.old.areas)) fault) }
         // It wants memory only where it is not refused and some page is to be written.
@@ -117,7 +126,8 @@ impl<D: Area> Recovery<D> {
         ensures pages { OnOk result ((pages : ℕ) → self.old.pages ≡ Some pages → self.new.pages ≡ Some pages) }
 
         // The pages that are left are written one after another, and no other changes.
-        ensures keeps { OnOk result ((IsMergeNext self.old → ⊥) → AreHonest D.Area self.new.areas → Renews D.Area self.old self.new) }
+        ensures keeps { OnOk result ((IsMergeNext self.old → ⊥) → AreHonest D.Area self.new.areas
+            → Renews D.Area self.old self.new) }
 
         // Whatever a stop leaves has the same result, also after a fault.
         ensures merges { (content : Content) (numbers : ℕ → ℕ) → AreHonest D.Area self.new.areas

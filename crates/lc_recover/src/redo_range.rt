@@ -1,7 +1,8 @@
 //! A range that is newer than a page.
 
-/// A range of a record, with a byte on a page and a number above the page's sequence: it is to be put on the page. The record
-/// stands at a place of a log, and the words of the range's bytes at a place of the record, both in words from the front.
+/// A range of a record, with a byte on a page and a number above the page's sequence: it is to be put on the page. The
+/// record stands at a place of a log, and the words of the range's bytes at a place of the record, both in words from
+/// the front.
 #[derive(Clone, Copy, PartialEq, Eq, PartialOrd, Ord)]
 pub(crate) struct RedoRange {
     pub(crate) segment: u32,

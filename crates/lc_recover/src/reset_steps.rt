@@ -1,5 +1,6 @@
 //! The steps that empty the logs.
-ghost use Rattle.std.specs.Prelude.{◌≡◌, ◌+◌, ◌*◌, ◌<◌, ◌≤◌, ℕ, List, [], OnOk, length, is_ok, true, false, slice_index_or};
+ghost use Rattle.std.specs.Prelude.{◌≡◌, ◌+◌, ◌*◌, ◌<◌, ◌≤◌, ℕ, List, [], OnOk, length, is_ok, true, false};
+ghost use Rattle.std.specs.Prelude.{slice_index_or};
 ghost use Rattle.lc_record.specs.declared.record.Record.{Record};
 ghost use Rattle.lc_log.specs.NodeLog.{IsClosing, IsWithOrWithout, Holds, GateReads, LeavesOnly};
 ghost use Rattle.lc_log.specs.OneCall.{IsOneCall};
@@ -51,7 +52,8 @@ fn close_next<D: Area>(
     requires fits { Fits D.Area geometry.now (RecoveryPhase.Resetting resets.now) areas.old }
     requires left { resets.now.next < geometry.now.nodes }
     requires at_rest { resets.now.is_closing ≡ false }
-    ensures fits { OnOk result (AreasFit D.Area geometry.now (RecoveryPhase.Resetting (record resets.now { is_closing = true })) areas.new) }
+    ensures fits { OnOk result (AreasFit D.Area geometry.now
+        (RecoveryPhase.Resetting (record resets.now { is_closing = true })) areas.new) }
     ensures areas { AreasFit D.Area geometry.now (RecoveryPhase.Syncing 0) areas.new }
     ensures call { OneCall D.Area resets.now.next areas.old areas.new (is_ok result) }
     ensures shows { (i : IsResetting geometry.now resets.now) → AreHonest D.Area areas.new
@@ -70,7 +72,8 @@ fn settle_next<D: Area>(
     requires fits { Fits D.Area geometry.now (RecoveryPhase.Resetting resets.now) areas.old }
     requires left { resets.now.next < geometry.now.nodes }
     requires closing { resets.now.is_closing ≡ true }
-    ensures fits { OnOk result (AreasFit D.Area geometry.now (RecoveryPhase.Resetting (record resets.now { next = resets.now.next + 1; is_closing = false })) areas.new) }
+    ensures fits { OnOk result (AreasFit D.Area geometry.now
+        (RecoveryPhase.Resetting (record resets.now { next = resets.now.next + 1; is_closing = false })) areas.new) }
     ensures areas { AreasFit D.Area geometry.now (RecoveryPhase.Syncing 0) areas.new }
     ensures call { OneCall D.Area resets.now.next areas.old areas.new (is_ok result) }
     ensures shows { (i : IsResetting geometry.now resets.now) → AreHonest D.Area areas.new

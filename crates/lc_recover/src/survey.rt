@@ -1,5 +1,6 @@
 //! What was read of a store, with nothing written.
-ghost use Rattle.std.specs.Prelude.{◌≡◌, ◌^◌, ◌<◌, ◌⊎◌, ℕ, [], Err, IfErr, IfOk, OnOk, length, map, slice_get, slice_index_or, ◌≢◌};
+ghost use Rattle.std.specs.Prelude.{◌≡◌, ◌^◌, ◌<◌, ◌⊎◌, ℕ, [], Err, IfErr, IfOk, OnOk, length, map, slice_get};
+ghost use Rattle.std.specs.Prelude.{slice_index_or, ◌≢◌};
 ghost use Rattle.lc_log.specs.InPlace.{records_in};
 ghost use Rattle.lc_log.specs.LogText.{joined};
 ghost use Rattle.lc_model.specs.Merge.{IsLeast, MergesTo};
@@ -9,7 +10,8 @@ ghost use Rattle.lc_recover.specs.KeptAreas.{IsReadOf, read_count};
 ghost use Rattle.lc_recover.specs.Reads.{area_len, AreHonest, AreLeftAs, AreOfBytes, HaveLengths, store_of};
 ghost use Rattle.lc_recover.specs.Recovery.{HasPageToWrite};
 ghost use Rattle.lc_recover.specs.RecoveryPhase.{AreasFit};
-ghost use Rattle.lc_recover.specs.declared.fault.RecoverFault.TheVariants.{BadGeometry, DeviceFault as Failed, NoMemory};
+ghost use Rattle.lc_recover.specs.declared.fault.RecoverFault.TheVariants.{BadGeometry, DeviceFault as Failed};
+ghost use Rattle.lc_recover.specs.declared.fault.RecoverFault.TheVariants.{NoMemory};
 ghost use Rattle.lc_recover.specs.declared.recovery_phase.RecoveryPhase.{RecoveryPhase};
 
 use crate::areas::first_wrong;
@@ -25,7 +27,7 @@ use lc_record::Geometry;
 use std::alloc::Global;
 use std::marker::Model;
 
-/// What was read of the areas of a store: the records of each log, and the pages of each segment. This project's own.
+/// What was read of the areas of a store: the records of each log, and the pages of each segment.
 #[derive(Drop)]
 pub struct Survey {
     geometry: Geometry,
@@ -58,11 +60,14 @@ impl Survey {
     ) -> Result<Survey, RecoverFault>
         ensures right { OnOk result (HaveLengths D.Area geometry.now areas.old) }
         ensures bytes { OnOk result (AreOfBytes D.Area areas.old) }
-        ensures wrong { (area : ℕ) → IsLeast (λ k. slice_get (map (λ d. length (D.now d)) areas.old) k ≢ area_len geometry.now k) area
+        ensures wrong { (area : ℕ) → IsLeast
+            (λ k. slice_get (map (λ d. length (D.now d)) areas.old) k ≢ area_len geometry.now k) area
             → (result ≡ Err (BadGeometry area)) }
-        ensures fault { IfErr result (λ fault. HaveLengths D.Area geometry.now areas.old → (fault ≡ NoMemory) ⊎ (fault ≡ Failed)) }
+        ensures fault { IfErr result (λ fault. HaveLengths D.Area geometry.now areas.old
+            → (fault ≡ NoMemory) ⊎ (fault ≡ Failed)) }
         ensures geometry { IfOk result (λ survey. survey.geometry ≡ geometry.now) }
-        ensures read { IfOk result (λ survey. AreHonest D.Area areas.old → survey.store ≡ store_of geometry.now (map D.now areas.old)) }
+        ensures read { IfOk result (λ survey. AreHonest D.Area areas.old
+            → survey.store ≡ store_of geometry.now (map D.now areas.old)) }
 
         // Also after a fault.
         ensures left { AreLeftAs D.Area areas.old areas.new }
@@ -93,14 +98,15 @@ impl Survey {
     ///
     /// # Errors
     ///
-    /// Where the merge is refused, the refusal of a recovery. `NoMemory` only where it is not refused and some page is to be
-    /// written.
+    /// Where the merge is refused, the refusal of a recovery. `NoMemory` only where it is not refused and some page is
+    /// to be written.
     pub fn forecast(self, alloc: Global) -> Result<Forecast, RecoverFault>
         ensures merged { IfOk result IsForecast }
         ensures store { IfOk result (λ forecast. forecast.store ≡ self.store) }
         ensures geometry { IfOk result (λ forecast. forecast.geometry ≡ self.geometry) }
         ensures refused { IfErr result (IsRefusal self.store) }
-        ensures accepted { (content : Content) (numbers : ℕ → ℕ) → MergesTo self.store content numbers → IfErr result (λ fault. fault ≡ NoMemory) }
+        ensures accepted { (content : Content) (numbers : ℕ → ℕ) → MergesTo self.store content numbers
+            → IfErr result (λ fault. fault ≡ NoMemory) }
         ensures no_memory { result ≡ Err NoMemory → HasPageToWrite self.store }
     {
         let Survey { geometry, mut read } = self;

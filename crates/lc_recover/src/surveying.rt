@@ -5,7 +5,8 @@ ghost use Rattle.lc_record.specs.Content.{Content};
 ghost use Rattle.lc_recover.specs.Fault.{IsRefusal};
 ghost use Rattle.lc_recover.specs.Forecast.{IsForecast};
 ghost use Rattle.lc_recover.specs.Reads.{area_len, AreHonest, AreLeftAs, HaveLengths, store_of};
-ghost use Rattle.lc_recover.specs.declared.fault.RecoverFault.TheVariants.{BadGeometry, DeviceFault as Failed, NoMemory};
+ghost use Rattle.lc_recover.specs.declared.fault.RecoverFault.TheVariants.{BadGeometry, DeviceFault as Failed};
+ghost use Rattle.lc_recover.specs.declared.fault.RecoverFault.TheVariants.{NoMemory};
 
 use crate::{Forecast, RecoverFault, Survey};
 use lc_disk::Area;
@@ -24,18 +25,23 @@ pub fn survey_areas<D: Area>(
     areas: &mut [D],
 ) -> Result<Forecast, RecoverFault>
     ensures right { OnOk result (HaveLengths D.Area geometry.now areas.old) }
-    ensures wrong { (area : ℕ) → IsLeast (λ k. slice_get (map (λ d. length (D.now d)) areas.old) k ≢ area_len geometry.now k) area
+    ensures wrong { (area : ℕ) → IsLeast
+        (λ k. slice_get (map (λ d. length (D.now d)) areas.old) k ≢ area_len geometry.now k) area
         → (result ≡ Err (BadGeometry area)) }
 
-    // The merge of what the areas read as is refused just where it has to be, unless a device has failed or there was no
-    // memory. What was read of an area that is not honest may be anything.
-    ensures refused { IfErr result (λ fault. HaveLengths D.Area geometry.now areas.old → AreHonest D.Area areas.old → (fault ≡ Failed → ⊥)
+    // The merge of what the areas read as is refused just where it has to be, unless a device has failed or there was
+    // no memory. What was read of an area that is not honest may be anything.
+    ensures refused { IfErr result (λ fault. HaveLengths D.Area geometry.now areas.old → AreHonest D.Area areas.old
+        → (fault ≡ Failed → ⊥)
         → IsRefusal (store_of geometry.now (map D.now areas.old)) fault) }
-    ensures accepted { (content : Content) (numbers : ℕ → ℕ) → HaveLengths D.Area geometry.now areas.old → AreHonest D.Area areas.old
-        → MergesTo (store_of geometry.now (map D.now areas.old)) content numbers → IfErr result (λ fault. (fault ≡ NoMemory) ⊎ (fault ≡ Failed)) }
+    ensures accepted { (content : Content) (numbers : ℕ → ℕ) → HaveLengths D.Area geometry.now areas.old
+        → AreHonest D.Area areas.old
+        → MergesTo (store_of geometry.now (map D.now areas.old)) content numbers
+        → IfErr result (λ fault. (fault ≡ NoMemory) ⊎ (fault ≡ Failed)) }
     ensures merged { IfOk result IsForecast }
     ensures geometry { IfOk result (λ forecast. forecast.geometry ≡ geometry.now) }
-    ensures read { IfOk result (λ forecast. AreHonest D.Area areas.old → forecast.store ≡ store_of geometry.now (map D.now areas.old)) }
+    ensures read { IfOk result (λ forecast. AreHonest D.Area areas.old
+        → forecast.store ≡ store_of geometry.now (map D.now areas.old)) }
 
     // Also after a fault.
     ensures left { AreLeftAs D.Area areas.old areas.new }

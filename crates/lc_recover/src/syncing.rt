@@ -20,7 +20,8 @@ pub(crate) fn sync_area<D: Area>(
     ensures call { OneCall D.Area synced areas.old areas.new (is_ok result) }
     ensures reads { AreHonest D.Area areas.old → map D.now areas.new ≡ map D.now areas.old }
     ensures merges { (content : Content) (numbers : ℕ → ℕ) → AreHonest D.Area areas.new
-        → AllMergeTo D.Area geometry.now areas.old content numbers → AllMergeTo D.Area geometry.now areas.new content numbers }
+        → AllMergeTo D.Area geometry.now areas.old content numbers
+        → AllMergeTo D.Area geometry.now areas.new content numbers }
 {
     areas[synced].sync()
 }

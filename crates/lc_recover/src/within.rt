@@ -1,5 +1,6 @@
 //! Whether the records lie within the segments.
-ghost use Rattle.std.specs.Prelude.{◌≡◌, ◌≢◌, ◌≤◌, ◌<◌, ◌+◌, ◌*◌, [], All, Contains, IfErr, OnOk, MatchBool, List, length, map};
+ghost use Rattle.std.specs.Prelude.{◌≡◌, ◌≢◌, ◌≤◌, ◌<◌, ◌+◌, ◌*◌, [], All, Contains, IfErr, OnOk, MatchBool, List};
+ghost use Rattle.std.specs.Prelude.{length, map};
 ghost use Rattle.lc_record.specs.Content.{segment_of};
 ghost use Rattle.lc_record.specs.GrammarVersion.{end_of};
 ghost use Rattle.lc_record.specs.Record.{IsCanonical, span_of};
@@ -24,7 +25,8 @@ use lc_record::{Items, View};
 pub(crate) fn within(logs: &[Items<u64>], segments: &[SegmentPages]) -> Result<(), RecoverFault>
     requires few_logs { length logs.now ≤ 8 }
     requires few_pages { All (λ (s : SegmentPages). length s.texts ≤ 1024) segments.now }
-    ensures refused { IfErr result (λ fault. AreOwn (store_of logs.now segments.now) → IsRefusal (store_of logs.now segments.now) fault) }
+    ensures refused { IfErr result (λ fault. AreOwn (store_of logs.now segments.now)
+        → IsRefusal (store_of logs.now segments.now) fault) }
     ensures named { IfErr result (λ fault. fault ≢ NoMemory) }
     ensures within { OnOk result (AreWithin (store_of logs.now segments.now)) }
 {
@@ -52,7 +54,8 @@ fn lie_within(words: &[u64], segments: &[SegmentPages]) -> bool
 fn lies_within(view: &View<'_>, segments: &[SegmentPages]) -> bool
     requires canonical { IsCanonical view.now }
     requires few_pages { All (λ (s : SegmentPages). length s.texts ≤ 1024) segments.now }
-    ensures { MatchBool result (IsOutside (store_of [] segments.now) view.now → ⊥) (IsOutside (store_of [] segments.now) view.now) }
+    ensures { MatchBool result (IsOutside (store_of [] segments.now) view.now → ⊥)
+        (IsOutside (store_of [] segments.now) view.now) }
 {
     locks_within(view, segments.len()) && ranges_within(view, segments)
 }
@@ -75,7 +78,8 @@ fn ranges_within(view: &View<'_>, segments: &[SegmentPages]) -> bool
     requires canonical { IsCanonical view.now }
     requires few_pages { All (λ (s : SegmentPages). length s.texts ≤ 1024) segments.now }
     ensures { MatchBool result
-        (All (λ range. end_of (span_of range) ≤ length (segment_of range.segment (map kept_pages segments.now)) * 256) view.now.ranges)
+        (All (λ range. end_of (span_of range) ≤ length (segment_of range.segment (map kept_pages segments.now)) * 256)
+        view.now.ranges)
         ((range : RangeData) × Contains view.now.ranges range
         × (length (segment_of range.segment (map kept_pages segments.now)) * 256 < end_of (span_of range))) }
 {

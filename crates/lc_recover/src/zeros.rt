@@ -16,8 +16,8 @@ pub fn zeros_merge<D: Area>()
         → AllMergeTo D.Area g areas (zero_content g) (λ segment. 0) }
 {}
 
-/// The areas of a store in memory, in the order of the store, each of zeros: what a new store is made of. It takes the memory
-/// of all of them.
+/// The areas of a store in memory, in the order of the store, each of zeros: what a new store is made of. It takes the
+/// memory of all of them.
 pub fn zero_areas(alloc: Global, geometry: &Geometry) -> Result<Vec<MemArea>, AllocError>
     ensures lengths { IfOk result (λ areas. HaveLengths ghosts geometry.now areas.items) }
     ensures zeros { IfOk result (λ areas. AreZeros ghosts areas.items) }

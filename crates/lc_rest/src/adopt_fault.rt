@@ -7,7 +7,7 @@ use lc_disk::DeviceFault;
 use std::alloc::AllocError;
 use thiserror::Error;
 
-/// Why a cluster at rest does not become a store that is up. This project's own.
+/// Why a cluster at rest does not become a store that is up.
 #[derive(Clone, Copy, Debug, PartialEq, Eq, Error)]
 pub enum AdoptFault {
     /// This part does not agree with the others.

@@ -1,7 +1,7 @@
 //! The parts of a cluster.
 use thiserror::Error;
 
-/// A part of a cluster at rest, whose nodes are numbered from 0 and whose segments from 1. This project's own.
+/// A part of a cluster at rest, whose nodes are numbered from 0 and whose segments from 1.
 #[derive(Clone, Copy, Debug, PartialEq, Eq, Error)]
 pub enum ClusterPart {
     /// What the threads of this node are doing.

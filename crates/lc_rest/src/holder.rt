@@ -1,6 +1,6 @@
 //! Where the token of a segment is.
 
-/// The node where the token of a segment is, or the node that it left when it was sent. This project's own.
+/// The node where the token of a segment is, or the node that it left when it was sent.
 #[derive(Clone, Copy, Debug, PartialEq, Eq)]
 pub enum Holder {
     /// It is at this node.

@@ -15,8 +15,8 @@ fn lay_above(segment: u32, applied: u64, whole: &Record, image: &mut [u8])
     }
 }
 
-/// Whether a node's image, with the records above what it has applied put on, is the bytes that all records make of the pages.
-/// The image is then with these put on, whatever the answer. It takes no memory. This project's own.
+/// Whether a node's image, with the records above what it has applied put on, is the bytes that all records make of the
+/// pages. The image is then with these put on, whatever the answer. It takes no memory.
 pub fn comes_up(
     segment: u32,
     applied: u64,

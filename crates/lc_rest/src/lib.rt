@@ -1,5 +1,5 @@
-//! A cluster at rest: its records merge into one order, and where what it left passes each test, it stands for one sound state
-//! of the machine, whose value is what all records make of the pages.
+//! A cluster at rest: its records merge into one order, and where what it left passes each test, it stands for one
+//! sound state of the machine, whose value is what all records make of the pages.
 #![tactic(auto)]
 
 mod adopt_fault;

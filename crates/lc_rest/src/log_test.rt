@@ -39,7 +39,6 @@ fn is_own(geometry: &Geometry, node: u16, whole: &Record) -> bool
 }
 
 /// Whether each record of a log names its node, and lies in the segments of the geometry. It takes no memory.
-/// This project's own.
 pub fn keeps_own(geometry: &Geometry, node: u16, log: &[Record]) -> bool
     ensures { IsTrue result ↔ All (IsOwn geometry.now node) log.now }
 {
@@ -51,11 +50,12 @@ pub fn keeps_own(geometry: &Geometry, node: u16, log: &[Record]) -> bool
     true
 }
 
-/// Whether what a node knows to be clean is at most what the token of each segment says. The tokens are those of the segments
-/// from 1 on, at most 16. It takes no memory. This project's own.
+/// Whether what a node knows to be clean is at most what the token of each segment says. The tokens are those of the
+/// segments from 1 on, at most 16. It takes no memory.
 pub fn keeps_known(known: &KnownClean, tokens: &[Token]) -> bool
     requires { length tokens.now ≤ 16 }
-    ensures { IsTrue result ↔ ((k : ℕ) (token : TheToken) → slice_get tokens.now k ≡ Some token → known_of known.now (k + 1) ≤ token.clean) }
+    ensures { IsTrue result ↔ ((k : ℕ) (token : TheToken) → slice_get tokens.now k ≡ Some token
+        → known_of known.now (k + 1) ≤ token.clean) }
 {
     for (place, token) in tokens.iter().enumerate() {
         if known.known_clean(place as u32 + 1) > token.clean() {

@@ -1,9 +1,11 @@
 //! The order in which the records of all nodes follow one another.
-ghost use Rattle.std.specs.Prelude.{◌≡◌, ◌↔◌, ◌+◌, ◌<◌, ◌≤◌, ℕ, IsTrue, IfErr, IfNone, IfOk, IfSome, [], List, length, All, slice_index_or};
+ghost use Rattle.std.specs.Prelude.{◌≡◌, ◌↔◌, ◌+◌, ◌<◌, ◌≤◌, ℕ, IsTrue, IfErr, IfNone, IfOk, IfSome, [], List, length};
+ghost use Rattle.std.specs.Prelude.{All, slice_index_or};
 ghost use Rattle.std.specs.List.{list_all};
 ghost use Rattle.lc_record.specs.declared.record.Lock.{Lock as TheLock};
 ghost use Rattle.lc_rest.specs.Adopted.{IsNext};
-ghost use Rattle.lc_rest.specs.Merge.{AreKnown, AreTurns, IsStuck, after_turns, counted_by, is_next_lock, logs_of, MayTurn, no_record, number_at, times};
+ghost use Rattle.lc_rest.specs.Merge.{AreKnown, AreTurns, IsStuck, after_turns, counted_by, is_next_lock, logs_of};
+ghost use Rattle.lc_rest.specs.Merge.{MayTurn, no_record, number_at, times};
 
 use lc_record::{Lock, Record};
 use std::alloc::{AllocError, Global};
@@ -31,14 +33,16 @@ fn are_next(numbers: &[u64], locks: &[Lock]) -> bool
 
 // Whether the log has a record after so many, and that has the next numbers.
 fn may_turn(log: &[Record], done: usize, numbers: &[u64]) -> bool
-    ensures { IsTrue result ↔ ((done < length log.now) × IsNext (number_at numbers.now) (slice_index_or log.now done no_record)) }
+    ensures { IsTrue result ↔ ((done < length log.now)
+        × IsNext (number_at numbers.now) (slice_index_or log.now done no_record)) }
 {
     done < log.len() && are_next(numbers, log[done].locks.as_slice())
 }
 
 // Counts the locks of a record.
 fn count(numbers: &mut [u64], whole: &Record)
-    requires known { All (λ (lock : TheLock). (1 ≤ lock.segment) × (lock.segment ≤ length numbers.old)) whole.now.locks }
+    requires known { All (λ (lock : TheLock). (1 ≤ lock.segment) × (lock.segment ≤ length numbers.old))
+        whole.now.locks }
     ensures { numbers.new ≡ counted_by whole.now.locks numbers.old }
 {
     for lock in whole.locks.as_slice() {
@@ -50,7 +54,8 @@ fn count(numbers: &mut [u64], whole: &Record)
 fn find_turn(logs: &[Vec<Record>], done: &[usize], numbers: &[u64]) -> Option<usize>
     requires { length done.now ≡ length logs.now }
     ensures some { IfSome result (MayTurn (logs_of logs.now) done.now numbers.now) }
-    ensures least { IfSome result (λ node. (other : ℕ) → other < node → MayTurn (logs_of logs.now) done.now numbers.now other → ⊥) }
+    ensures least { IfSome result (λ node. (other : ℕ) → other < node
+        → MayTurn (logs_of logs.now) done.now numbers.now other → ⊥) }
     ensures none { IfNone result ((node : ℕ) → MayTurn (logs_of logs.now) done.now numbers.now node → ⊥) }
 {
     for node in 0..logs.len() {
@@ -64,9 +69,12 @@ fn find_turn(logs: &[Vec<Record>], done: &[usize], numbers: &[u64]) -> Option<us
 // The least node that has a record left.
 fn find_left(logs: &[Vec<Record>], done: &[usize]) -> Option<usize>
     requires { length done.now ≡ length logs.now }
-    ensures left { IfSome result (λ node. slice_index_or done.now node 0 < length (slice_index_or (logs_of logs.now) node [])) }
-    ensures least { IfSome result (λ node. (other : ℕ) → other < node → length (slice_index_or (logs_of logs.now) other []) ≤ slice_index_or done.now other 0) }
-    ensures none { IfNone result ((node : ℕ) → node < length logs.now → length (slice_index_or (logs_of logs.now) node []) ≤ slice_index_or done.now node 0) }
+    ensures left { IfSome result (λ node. slice_index_or done.now node 0
+        < length (slice_index_or (logs_of logs.now) node [])) }
+    ensures least { IfSome result (λ node. (other : ℕ) → other < node
+        → length (slice_index_or (logs_of logs.now) other []) ≤ slice_index_or done.now other 0) }
+    ensures none { IfNone result ((node : ℕ) → node < length logs.now
+        → length (slice_index_or (logs_of logs.now) node []) ≤ slice_index_or done.now node 0) }
 {
     for node in 0..logs.len() {
         if done[node] < logs[node].len() {
@@ -96,11 +104,17 @@ pub fn merge_records(
     logs: &[Vec<Record>],
 ) -> Result<Result<Vec<usize>, usize>, AllocError>
     requires known { AreKnown (length numbers.old) (logs_of logs.now) }
-    ensures follow { IfOk result (λ merged. IfOk merged (λ order. AreTurns (logs_of logs.now) numbers.old [] order.items)) }
-    ensures last { IfOk result (λ merged. IfOk merged (λ order. numbers.new ≡ after_turns (logs_of logs.now) numbers.old [] order.items)) }
-    ensures all { IfOk result (λ merged. IfOk merged (λ order. (node : ℕ) → node < length logs.now → times node order.items ≡ length (slice_index_or (logs_of logs.now) node []))) }
-    ensures none { IfOk result (λ merged. IfOk merged (λ order. (node : ℕ) → length logs.now ≤ node → times node order.items ≡ 0)) }
-    ensures stuck { IfOk result (λ merged. IfErr merged (λ node. (turns : List ℕ) × IsStuck (logs_of logs.now) numbers.old turns node × (numbers.new ≡ after_turns (logs_of logs.now) numbers.old [] turns))) }
+    ensures follow { IfOk result (λ merged. IfOk merged (λ order.
+        AreTurns (logs_of logs.now) numbers.old [] order.items)) }
+    ensures last { IfOk result (λ merged. IfOk merged (λ order. numbers.new
+        ≡ after_turns (logs_of logs.now) numbers.old [] order.items)) }
+    ensures all { IfOk result (λ merged. IfOk merged (λ order. (node : ℕ) → node < length logs.now
+        → times node order.items ≡ length (slice_index_or (logs_of logs.now) node []))) }
+    ensures none { IfOk result (λ merged. IfOk merged (λ order. (node : ℕ) → length logs.now ≤ node
+        → times node order.items ≡ 0)) }
+    ensures stuck { IfOk result (λ merged. IfErr merged (λ node. (turns : List ℕ)
+        × IsStuck (logs_of logs.now) numbers.old turns node
+        × (numbers.new ≡ after_turns (logs_of logs.now) numbers.old [] turns))) }
 {
     let mut done = Vec::from_elem(alloc, 0, logs.len())?;
     let mut order = Vec::with_capacity(alloc, count_records(logs))?;

@@ -1,5 +1,6 @@
 //! The test of the numbers that records have of a segment.
-ghost use Rattle.std.specs.Prelude.{◌≡◌, ◌↔◌, ◌+◌, ◌-◌, ◌^◌, ◌<◌, ◌≤◌, ◌∷◌, ◌++◌, [], Bool, IfOk, IsTrue, List, false, length, slice_index_or, slice_set, true};
+ghost use Rattle.std.specs.Prelude.{◌≡◌, ◌↔◌, ◌+◌, ◌-◌, ◌^◌, ◌<◌, ◌≤◌, ◌∷◌, ◌++◌, [], Bool, IfOk, IsTrue, List, false};
+ghost use Rattle.std.specs.Prelude.{length, slice_index_or, slice_set, true};
 ghost use Rattle.std.specs.List.{list_all};
 ghost use Rattle.lc_record.specs.declared.record.Record.{Record as TheRecord};
 ghost use Rattle.lc_rest.specs.NumbersTest.{AreMarked, AreNumbered, joined_logs};
@@ -10,7 +11,8 @@ use std::alloc::{AllocError, Global};
 
 // Marks the place, and says whether there is such a place that was not marked.
 fn mark_place(marks: &mut [bool], place: usize) -> bool
-    ensures marked { IsTrue result → (place < length marks.old) × ((d : Bool) → slice_index_or marks.old place d ≡ false) × (marks.new ≡ slice_set marks.old place true) }
+    ensures marked { IsTrue result → (place < length marks.old)
+        × ((d : Bool) → slice_index_or marks.old place d ≡ false) × (marks.new ≡ slice_set marks.old place true) }
     ensures refused { result ≡ false → place < length marks.old → (d : Bool) → slice_index_or marks.old place d ≡ true }
 {
     if place >= marks.len() || marks[place] {
@@ -22,8 +24,10 @@ fn mark_place(marks: &mut [bool], place: usize) -> bool
 
 // Marks the record's number of the segment, and says whether it has none, or one in its range that was not marked.
 fn mark(segment: u32, first: u64, marks: &mut [bool], whole: &Record) -> bool
-    ensures marked { IsTrue result → (rs : List TheRecord) → AreMarked segment first rs marks.old → AreMarked segment first (rs ++ whole.now ∷ []) marks.new }
-    ensures refused { result ≡ false → (rs behind : List TheRecord) → AreMarked segment first rs marks.old → AreNumbered segment first (first + length marks.old) (rs ++ whole.now ∷ behind) → ⊥ }
+    ensures marked { IsTrue result → (rs : List TheRecord) → AreMarked segment first rs marks.old
+        → AreMarked segment first (rs ++ whole.now ∷ []) marks.new }
+    ensures refused { result ≡ false → (rs behind : List TheRecord) → AreMarked segment first rs marks.old
+        → AreNumbered segment first (first + length marks.old) (rs ++ whole.now ∷ behind) → ⊥ }
 {
     let Some(number) = number_in(segment, whole) else {
         return true;
@@ -33,8 +37,10 @@ fn mark(segment: u32, first: u64, marks: &mut [bool], whole: &Record) -> bool
 
 // Marks the numbers of a log's records, and says whether each was so.
 fn mark_log(segment: u32, first: u64, marks: &mut [bool], log: &[Record]) -> bool
-    ensures marked { IsTrue result → (rs : List TheRecord) → AreMarked segment first rs marks.old → AreMarked segment first (rs ++ log.now) marks.new }
-    ensures refused { result ≡ false → (rs behind : List TheRecord) → AreMarked segment first rs marks.old → AreNumbered segment first (first + length marks.old) (rs ++ (log.now ++ behind)) → ⊥ }
+    ensures marked { IsTrue result → (rs : List TheRecord) → AreMarked segment first rs marks.old
+        → AreMarked segment first (rs ++ log.now) marks.new }
+    ensures refused { result ≡ false → (rs behind : List TheRecord) → AreMarked segment first rs marks.old
+        → AreNumbered segment first (first + length marks.old) (rs ++ (log.now ++ behind)) → ⊥ }
 {
     for whole in log {
         if !mark(segment, first, marks, whole) {
@@ -46,8 +52,10 @@ fn mark_log(segment: u32, first: u64, marks: &mut [bool], log: &[Record]) -> boo
 
 // Marks the numbers of the records of all logs, and says whether each was so.
 fn mark_logs(segment: u32, first: u64, marks: &mut [bool], logs: &[Vec<Record>]) -> bool
-    ensures marked { IsTrue result → AreMarked segment first [] marks.old → AreMarked segment first (joined_logs logs.now) marks.new }
-    ensures refused { result ≡ false → AreMarked segment first [] marks.old → AreNumbered segment first (first + length marks.old) (joined_logs logs.now) → ⊥ }
+    ensures marked { IsTrue result → AreMarked segment first [] marks.old
+        → AreMarked segment first (joined_logs logs.now) marks.new }
+    ensures refused { result ≡ false → AreMarked segment first [] marks.old
+        → AreNumbered segment first (first + length marks.old) (joined_logs logs.now) → ⊥ }
 {
     for log in logs {
         if !mark_log(segment, first, marks, log.as_slice()) {
@@ -66,7 +74,8 @@ fn are_marked(marks: &[bool]) -> bool
 
 // Marks the numbers of the records of all logs, and says whether each number is marked, and none twice.
 fn marks_all(segment: u32, first: u64, marks: &mut [bool], logs: &[Vec<Record>]) -> bool
-    ensures { AreMarked segment first [] marks.old → (IsTrue result ↔ AreNumbered segment first (first + length marks.old) (joined_logs logs.now)) }
+    ensures { AreMarked segment first [] marks.old
+        → (IsTrue result ↔ AreNumbered segment first (first + length marks.old) (joined_logs logs.now)) }
 {
     mark_logs(segment, first, marks, logs) && are_marked(marks)
 }

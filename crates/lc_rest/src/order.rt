@@ -5,8 +5,8 @@ ghost use Rattle.lc_rest.specs.Merge.{logs_of, merged_after, times};
 use lc_record::Record;
 use std::alloc::{AllocError, Global};
 
-/// The records in the order of these turns of their nodes. It takes memory for one reference a record, and for a count of each
-/// node. This project's own.
+/// The records in the order of these turns of their nodes. It takes memory for one reference a record, and for a count
+/// of each node.
 pub fn in_order<'a>(
     alloc: Global,
     logs: &'a [Vec<Record>],

@@ -5,8 +5,8 @@ ghost use Rattle.lc_rest.specs.Replay.{AreBytes};
 use lc_page::{PAGE_BYTES, page_bytes};
 use std::alloc::{AllocError, Global};
 
-/// The bytes of so many pages of an area, one page after another. The area has two slots of 272 bytes a page. It takes memory for
-/// the bytes before it reads. This project's own.
+/// The bytes of so many pages of an area, one page after another. The area has two slots of 272 bytes a page. It takes
+/// memory for the bytes before it reads.
 pub fn read_bytes(alloc: Global, area: &[u8], pages: u32) -> Result<Vec<u8>, AllocError>
     requires { 2 * 272 * pages ≤ length area.now }
     ensures { IfOk result (λ bytes. AreBytes area.now pages bytes.items) }

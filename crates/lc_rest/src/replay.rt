@@ -4,7 +4,8 @@ ghost use Rattle.std.specs.Prelude.{◌≡◌, ◌↔◌, ◌==◌, ◌+◌, ◌
 ghost use Rattle.lc_page.specs.Page.{page_in};
 ghost use Rattle.lc_record.specs.Content.{put};
 ghost use Rattle.lc_rest.specs.Turns.{has_lock};
-ghost use Rattle.lc_rest.specs.Replay.{AreBytes, AreMet, IsDue, IsReplay, IsUnmet, bytes_after, laid_on, lesser, part_at, range_on};
+ghost use Rattle.lc_rest.specs.Replay.{AreBytes, AreMet, IsDue, IsReplay, IsUnmet, bytes_after, laid_on, lesser};
+ghost use Rattle.lc_rest.specs.Replay.{part_at, range_on};
 
 use lc_page::{PAGE_BYTES, page_bytes, read_page};
 use lc_record::{Lock, RangeData, Record};
@@ -79,7 +80,8 @@ fn next_due(area: &[u8], pages: u32, number: u64) -> Option<u64>
 fn is_met(area: &[u8], page: u32, number: u64, bytes: &[u8]) -> bool
     requires area { 2 * 272 * (page + 1) ≤ length area.now }
     requires bytes { page * 256 + 256 ≤ length bytes.now }
-    ensures { IsTrue result ↔ ((page_in area.now page).sequence ≡ number → (page_in area.now page).content ≡ part_at page bytes.now) }
+    ensures { IsTrue result ↔ ((page_in area.now page).sequence ≡ number
+        → (page_in area.now page).content ≡ part_at page bytes.now) }
 {
     if read_page(area, page).seq != number {
         return true;
@@ -120,7 +122,8 @@ pub fn replay_segment(
     requires bytes { AreBytes area.now pages bytes.old }
     requires small { first + length records.now < 2 ^ 64 }
     ensures bytes { bytes.new ≡ bytes_after segment (map (λ r. r.now) records.now) bytes.old }
-    ensures replay { IsTrue result ↔ IsReplay segment first last (map (λ r. r.now) records.now) bytes.old area.now pages }
+    ensures replay { IsTrue result ↔ IsReplay segment first last
+        (map (λ r. r.now) records.now) bytes.old area.now pages }
     ensures within { IsTrue result → (page : ℕ) → page < pages → (page_in area.now page).sequence ≤ last }
 {
     let mut number = first;

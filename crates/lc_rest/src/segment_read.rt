@@ -2,7 +2,7 @@
 use crate::Holder;
 use lc_token::Token;
 
-/// What is read of a segment of a cluster at rest. This project's own.
+/// What is read of a segment of a cluster at rest.
 #[derive(Drop)]
 pub struct SegmentRead<'a> {
     /// The segment, from 1.

@@ -15,8 +15,8 @@ fn count_stable(segment: u32, stable: usize, log: &[Record]) -> usize
     count_log(segment, &log[..stable.min(log.len())])
 }
 
-/// The number up to which a segment is stable, which had this number before all its records, in logs of which so many records
-/// each are stable. It takes no memory. This project's own.
+/// The number up to which a segment is stable, which had this number before all its records, in logs of which so many
+/// records each are stable. It takes no memory.
 pub fn stable_number(segment: u32, first: u64, logs: &[Vec<Record>], stable: &[usize]) -> u64
     requires count { length stable.now ≡ length logs.now }
     requires small { first + count_on segment (logs_of logs.now) < 2 ^ 64 }
@@ -38,8 +38,7 @@ fn lay_up_to(segment: u32, number: u64, whole: &Record, bytes: &mut [u8])
     }
 }
 
-/// Puts the records that are not above a number, in their order, on the bytes of a segment. It takes no memory. This project's
-/// own.
+/// Puts the records that are not above a number, in their order, on the bytes of a segment. It takes no memory.
 pub fn replay_up_to(segment: u32, number: u64, records: &[&Record], bytes: &mut [u8])
     ensures { bytes.new ≡ bytes_up_to segment number (map (λ r. r.now) records.now) bytes.old }
 {

@@ -1,10 +1,12 @@
 //! The tests of a segment's token, its records and its pages.
-ghost use Rattle.std.specs.Prelude.{◌≡◌, ◌↔◌, ◌+◌, ◌-◌, ◌*◌, ◌^◌, ◌<◌, ◌≤◌, ℕ, [], All, IfNone, IfSome, IsTrue, length, nat_lt, slice_index_or};
+ghost use Rattle.std.specs.Prelude.{◌≡◌, ◌↔◌, ◌+◌, ◌-◌, ◌*◌, ◌^◌, ◌<◌, ◌≤◌, ℕ, [], All, IfNone, IfSome, IsTrue, length};
+ghost use Rattle.std.specs.Prelude.{nat_lt, slice_index_or};
 ghost use Rattle.lc_record.specs.Part.{number_in};
 ghost use Rattle.lc_record.specs.declared.record.RangeData.{RangeData as TheRange};
 ghost use Rattle.lc_page.specs.Page.{page_in};
 ghost use Rattle.lc_rest.specs.Merge.{logs_of, no_record, record_at};
-ghost use Rattle.lc_rest.specs.TokenTest.{IsKeptPage, IsKeptRange, IsKeptRecord, IsKeptToken, IsLeastWaiting, IsLowered, IsOnItsSide, IsReadPage, count_log, count_on};
+ghost use Rattle.lc_rest.specs.TokenTest.{IsKeptPage, IsKeptRange, IsKeptRecord, IsKeptToken, IsLeastWaiting};
+ghost use Rattle.lc_rest.specs.TokenTest.{IsLowered, IsOnItsSide, IsReadPage, count_log, count_on};
 
 use crate::replay::has_lock;
 use crate::{Holder, SegmentRead};
@@ -15,7 +17,8 @@ use lc_record::{MAX_SEQ, PAGE, RangeData, Record};
 fn keeps_page(read: &SegmentRead<'_>, number: u64, page: u32) -> bool
     requires area { 2 * 272 * (page + 1) ≤ length read.now.area.now }
     requires page { page < length read.now.token.now.pages }
-    ensures { IsTrue result ↔ IsKeptPage number read.now.token.now.clean read.now.area.now read.now.token.now.pages page }
+    ensures { IsTrue result ↔ IsKeptPage number read.now.token.now.clean read.now.area.now read.now.token.now.pages
+        page }
 {
     number <= read.token.pages().touched(page)
         && (number > read.token.clean() || number <= read_page(read.area, page).seq)
@@ -25,7 +28,8 @@ fn keeps_page(read: &SegmentRead<'_>, number: u64, page: u32) -> bool
 fn keeps_range(read: &SegmentRead<'_>, number: u64, range: &RangeData) -> bool
     requires area { 2 * 272 * read.now.pages ≤ length read.now.area.now }
     requires pages { read.now.pages ≤ length read.now.token.now.pages }
-    ensures { IsTrue result ↔ IsKeptRange number read.now.token.now.clean read.now.pages read.now.area.now read.now.token.now.pages range.now }
+    ensures { IsTrue result ↔ IsKeptRange number read.now.token.now.clean read.now.pages read.now.area.now
+        read.now.token.now.pages range.now }
 {
     let first = range.offset / PAGE;
     for page in first..read.pages {
@@ -43,7 +47,9 @@ fn keeps_range(read: &SegmentRead<'_>, number: u64, range: &RangeData) -> bool
 fn keeps_own_range(read: &SegmentRead<'_>, number: u64, range: &RangeData) -> bool
     requires area { 2 * 272 * read.now.pages ≤ length read.now.area.now }
     requires pages { read.now.pages ≤ length read.now.token.now.pages }
-    ensures { IsTrue result ↔ (range.now.segment ≡ read.now.segment → IsKeptRange number read.now.token.now.clean read.now.pages read.now.area.now read.now.token.now.pages range.now) }
+    ensures { IsTrue result ↔ (range.now.segment ≡ read.now.segment
+        → IsKeptRange number read.now.token.now.clean read.now.pages read.now.area.now read.now.token.now.pages
+        range.now) }
 {
     range.segment != read.segment || keeps_range(read, number, range)
 }
@@ -52,7 +58,9 @@ fn keeps_own_range(read: &SegmentRead<'_>, number: u64, range: &RangeData) -> bo
 fn keeps_ranges(read: &SegmentRead<'_>, number: u64, whole: &Record) -> bool
     requires area { 2 * 272 * read.now.pages ≤ length read.now.area.now }
     requires pages { read.now.pages ≤ length read.now.token.now.pages }
-    ensures { IsTrue result ↔ All (λ (range : TheRange). range.segment ≡ read.now.segment → IsKeptRange number read.now.token.now.clean read.now.pages read.now.area.now read.now.token.now.pages range) whole.now.ranges }
+    ensures { IsTrue result ↔ All (λ (range : TheRange). range.segment ≡ read.now.segment
+        → IsKeptRange number read.now.token.now.clean read.now.pages read.now.area.now read.now.token.now.pages range)
+        whole.now.ranges }
 {
     for range in whole.ranges.as_slice() {
         if !keeps_own_range(read, number, range) {
@@ -74,7 +82,8 @@ pub(crate) fn number_in(segment: u32, whole: &Record) -> Option<u64>
     None
 }
 
-// Whether a record with this number is on the right side of the least number that is not stable, and at home if it is not stable.
+// Whether a record with this number is on the right side of the least number that is not stable, and at home if it is
+// not stable.
 fn keeps_number(least: u64, holder: Holder, stable: bool, node: u16, number: u64) -> bool
     ensures { IsTrue result ↔ IsOnItsSide least holder stable node number }
 {
@@ -88,7 +97,8 @@ fn keeps_number(least: u64, holder: Holder, stable: bool, node: u16, number: u64
 fn keeps_record(read: &SegmentRead<'_>, least: u64, stable: bool, whole: &Record) -> bool
     requires area { 2 * 272 * read.now.pages ≤ length read.now.area.now }
     requires pages { read.now.pages ≤ length read.now.token.now.pages }
-    ensures { IsTrue result ↔ IsKeptRecord read.now.segment least read.now.token.now.clean read.now.pages read.now.holder read.now.area.now read.now.token.now.pages stable whole.now }
+    ensures { IsTrue result ↔ IsKeptRecord read.now.segment least read.now.token.now.clean read.now.pages
+        read.now.holder read.now.area.now read.now.token.now.pages stable whole.now }
 {
     let Some(number) = number_in(read.segment, whole) else {
         return true;
@@ -101,7 +111,9 @@ fn keeps_record(read: &SegmentRead<'_>, least: u64, stable: bool, whole: &Record
 fn keeps_log(read: &SegmentRead<'_>, least: u64, stable: usize, log: &[Record]) -> bool
     requires area { 2 * 272 * read.now.pages ≤ length read.now.area.now }
     requires pages { read.now.pages ≤ length read.now.token.now.pages }
-    ensures { IsTrue result ↔ ((k : ℕ) → k < length log.now → IsKeptRecord read.now.segment least read.now.token.now.clean read.now.pages read.now.holder read.now.area.now read.now.token.now.pages (nat_lt k stable) (slice_index_or log.now k no_record)) }
+    ensures { IsTrue result ↔ ((k : ℕ) → k < length log.now
+        → IsKeptRecord read.now.segment least read.now.token.now.clean read.now.pages read.now.holder read.now.area.now
+        read.now.token.now.pages (nat_lt k stable) (slice_index_or log.now k no_record)) }
 {
     for k in 0..log.len() {
         if !keeps_record(read, least, k < stable, &log[k]) {
@@ -116,8 +128,10 @@ fn keeps_logs(read: &SegmentRead<'_>, least: u64, stable: &[usize], logs: &[Vec<
     requires area { 2 * 272 * read.now.pages ≤ length read.now.area.now }
     requires pages { read.now.pages ≤ length read.now.token.now.pages }
     requires count { length stable.now ≡ length logs.now }
-    ensures { IsTrue result ↔ ((n k : ℕ) → n < length (logs_of logs.now) → k < length (slice_index_or (logs_of logs.now) n [])
-        → IsKeptRecord read.now.segment least read.now.token.now.clean read.now.pages read.now.holder read.now.area.now read.now.token.now.pages (nat_lt k (slice_index_or stable.now n 0)) (record_at (logs_of logs.now) n k)) }
+    ensures { IsTrue result ↔ ((n k : ℕ) → n < length (logs_of logs.now)
+        → k < length (slice_index_or (logs_of logs.now) n [])
+        → IsKeptRecord read.now.segment least read.now.token.now.clean read.now.pages read.now.holder read.now.area.now
+        read.now.token.now.pages (nat_lt k (slice_index_or stable.now n 0)) (record_at (logs_of logs.now) n k)) }
 {
     for node in 0..logs.len() {
         if !keeps_log(read, least, stable[node], logs[node].as_slice()) {
@@ -160,8 +174,8 @@ pub(crate) fn count_log(segment: u32, log: &[Record]) -> usize
     log.iter().filter(|whole| has_lock(segment, whole)).count()
 }
 
-/// The number that a segment has before all its records in these logs, where the last of them has this number; None where there are
-/// more records than that. It takes no memory. This project's own.
+/// The number that a segment has before all its records in these logs, where the last of them has this number; None
+/// where there are more records than that. It takes no memory.
 pub fn first_number(segment: u32, seq: u64, logs: &[Vec<Record>]) -> Option<u64>
     ensures some { IfSome result (λ first. first + count_on segment (logs_of logs.now) ≡ seq) }
     ensures none { IfNone result (seq < count_on segment (logs_of logs.now)) }
@@ -176,7 +190,8 @@ pub fn first_number(segment: u32, seq: u64, logs: &[Vec<Record>]) -> Option<u64>
 // Whether some page has come to the number.
 fn is_reached(read: &SegmentRead<'_>, number: u64) -> bool
     requires { 2 * 272 * read.now.pages ≤ length read.now.area.now }
-    ensures { IsTrue result ↔ ((page : ℕ) × (page < read.now.pages) × (number ≤ (page_in read.now.area.now page).sequence)) }
+    ensures { IsTrue result ↔ ((page : ℕ) × (page < read.now.pages)
+        × (number ≤ (page_in read.now.area.now page).sequence)) }
 {
     for page in 0..read.pages {
         if number <= read_page(read.area, page).seq {
@@ -214,7 +229,8 @@ fn is_read(read: &SegmentRead<'_>, page: u32, least: u64) -> bool
 fn are_read(read: &SegmentRead<'_>, least: u64) -> bool
     requires area { 2 * 272 * read.now.pages ≤ length read.now.area.now }
     requires pages { read.now.pages ≤ length read.now.token.now.pages }
-    ensures { IsTrue result ↔ ((page : ℕ) → page < read.now.pages → IsReadPage least read.now.area.now read.now.token.now.pages page) }
+    ensures { IsTrue result ↔ ((page : ℕ) → page < read.now.pages
+        → IsReadPage least read.now.area.now read.now.token.now.pages page) }
 {
     for page in 0..read.pages {
         if !is_read(read, page, least) {
@@ -224,15 +240,17 @@ fn are_read(read: &SegmentRead<'_>, least: u64) -> bool
     true
 }
 
-/// Whether a segment's token agrees with its records, of which so many of each node are stable, and with its area: its number is
-/// at most `MAX_SEQ`, its clean number at most that, and what it says of each page is what the area says; its records are as many
-/// as end at its number, and some page has come to the number before them; a record that is not stable is of the node where the
-/// token is, and all that are stable and all pages are below it; each is on pages that are touched, and, where it is clean, have it.
-/// The area has two slots of 272 bytes a page. It takes no memory. This project's own.
+/// Whether a segment's token agrees with its records, of which so many of each node are stable, and with its area. Its
+/// number is at most `MAX_SEQ` and its clean number at most that, and what it says of each page is what the area says.
+/// Its records are as many as end at its number, and some page has come to the number before them. A record that is not
+/// stable is of the node where the token is, and all that are stable and all pages are below it. Each record is on
+/// pages that are touched, and, where it is clean, have it. The area has two slots of 272 bytes a page. It takes no
+/// memory. This project's own.
 pub fn keeps_token(read: &SegmentRead<'_>, stable: &[usize], logs: &[Vec<Record>]) -> bool
     requires area { 2 * 272 * read.now.pages ≤ length read.now.area.now }
     requires count { length stable.now ≡ length logs.now }
-    ensures { IsTrue result ↔ IsKeptToken read.now.segment read.now.pages read.now.token.now read.now.holder (logs_of logs.now) stable.now read.now.area.now }
+    ensures { IsTrue result ↔ IsKeptToken read.now.segment read.now.pages read.now.token.now read.now.holder
+        (logs_of logs.now) stable.now read.now.area.now }
 {
     let token = read.token;
     let (seq, clean) = (token.seq(), token.clean());

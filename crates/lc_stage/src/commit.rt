@@ -1,6 +1,8 @@
 //! The calls of a committer.
-ghost use Rattle.std.specs.Prelude.{◌≡◌, ℕ, ◌+◌, ◌<◌, ◌≤◌, ◌↔◌, false, length, slice_set, IfOk, IfErr, IfSome, IfNone, IsTrue, Err};
-ghost use Rattle.lc_stage.specs.Staging.{latest, HasReached, learns_durable, with_receipt, saw, reserved, filled, shut_with, newest, offset_of, seal_of, IsOneRecord, Holds, LieBelow};
+ghost use Rattle.std.specs.Prelude.{◌≡◌, ℕ, ◌+◌, ◌<◌, ◌≤◌, ◌↔◌, false, length, slice_set, IfOk, IfErr, IfSome, IfNone};
+ghost use Rattle.std.specs.Prelude.{IsTrue, Err};
+ghost use Rattle.lc_stage.specs.Staging.{latest, HasReached, learns_durable, with_receipt, saw, reserved, filled};
+ghost use Rattle.lc_stage.specs.Staging.{shut_with, newest, offset_of, seal_of, IsOneRecord, Holds, LieBelow};
 ghost use Rattle.lc_stage.specs.Closed.{HasClosed};
 ghost use Rattle.lc_stage.specs.Receipts.{IsReceiptOf};
 ghost use Rattle.lc_stage.specs.Seats.{commit_view, IsSeatOf, IsRefused, IsIdle};
@@ -40,7 +42,8 @@ impl Stage {
         requires idle { IsIdle (commit_view seat.old) }
         requires some { 0 < n }
         ensures same { IsSeatOf self.now seat.new }
-        ensures ok { IfOk result (λ place. (place ≡ offset_of at) × (commit_view seat.new ≡ reserved at n (commit_view seat.old)) × Holds (commit_view seat.new)) }
+        ensures ok { IfOk result (λ place. (place ≡ offset_of at)
+            × (commit_view seat.new ≡ reserved at n (commit_view seat.old)) × Holds (commit_view seat.new)) }
         // What the seat reserved before lies in front of it.
         ensures below { IfOk result (λ _. LieBelow at (commit_view seat.old).mine) }
         ensures sealed { (result ≡ Err Sealed) ↔ (seal_of at ≡ 1) }
@@ -110,8 +113,12 @@ impl Stage {
         requires { IsSeatOf self.now seat.old }
         ensures same { IsSeatOf self.now seat.new }
         ensures grows { (commit_view seat.old).durable ≤ (commit_view seat.new).durable }
-        ensures some { IfSome result (λ receipt. HasReached (commit_view seat.new).durable (commit_view seat.old) × IsReceiptOf (latest (commit_view seat.old).mine) receipt × (commit_view seat.new ≡ with_receipt (learns_durable (commit_view seat.new).durable (commit_view seat.old)))) }
-        ensures none { IfNone result (¬ HasReached (commit_view seat.new).durable (commit_view seat.old) × (commit_view seat.new ≡ learns_durable (commit_view seat.new).durable (commit_view seat.old))) }
+        ensures some { IfSome result (λ receipt. HasReached (commit_view seat.new).durable (commit_view seat.old)
+            × IsReceiptOf (latest (commit_view seat.old).mine) receipt
+            × (commit_view seat.new
+            ≡ with_receipt (learns_durable (commit_view seat.new).durable (commit_view seat.old)))) }
+        ensures none { IfNone result (¬ HasReached (commit_view seat.new).durable (commit_view seat.old)
+            × (commit_view seat.new ≡ learns_durable (commit_view seat.new).durable (commit_view seat.old))) }
     {
         let stable = self.table.shared.load::<Learn>(&mut seat.seat, DURABLE);
         if seat.last.words == 0 || stable < seat.last.end() {

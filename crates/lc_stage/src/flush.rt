@@ -64,8 +64,12 @@ impl Stage {
         requires own { IsFlusherOf self.now flusher.old }
         requires room { length (flush_view flusher.old).taken < self.now.room }
         ensures same { IsFlusherOf self.now flusher.new }
-        ensures none { result ≡ 0 → flush_view flusher.new ≡ loaded (length (flush_view flusher.old).taken) 0 (flush_view flusher.old) }
-        ensures record { result ≢ 0 → (ws : List ℕ) × (flush_view flusher.new ≡ taking ws (loaded (length (flush_view flusher.old).taken) result (flush_view flusher.old))) × IsOneRecord ws × (slice_index ws 0 ≡ result) × ((flush_view flusher.old).cleared ≡ 0) }
+        ensures none { result ≡ 0 → flush_view flusher.new
+            ≡ loaded (length (flush_view flusher.old).taken) 0 (flush_view flusher.old) }
+        ensures record { result ≢ 0 → (ws : List ℕ)
+            × (flush_view flusher.new
+            ≡ taking ws (loaded (length (flush_view flusher.old).taken) result (flush_view flusher.old)))
+            × IsOneRecord ws × (slice_index ws 0 ≡ result) × ((flush_view flusher.old).cleared ≡ 0) }
     {
         let at = self.word_of(flusher.round, flusher.end);
         let found = self.table.shared.load::<Header>(&mut flusher.seat, at);
@@ -104,7 +108,8 @@ impl Stage {
         requires room { length (group.old.words ++ pending.old) + end ≤ group.old.room + start }
         ensures same { IsFlusherOf self.now flusher.new × (group.new.room ≡ group.old.room) }
         ensures loads { OnlyLoads (flush_view flusher.old) (flush_view flusher.new) }
-        ensures words { (front : List ℕ) → front ++ (group.old.words ++ pending.old) ≡ list_take start (flush_view flusher.old).taken
+        ensures words { (front : List ℕ)
+            → front ++ (group.old.words ++ pending.old) ≡ list_take start (flush_view flusher.old).taken
             → front ++ (group.new.words ++ pending.new) ≡ list_take end (flush_view flusher.old).taken }
     {
         let first = self.word_of(flusher.round, 0);

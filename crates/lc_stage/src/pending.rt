@@ -7,7 +7,7 @@ use std::marker::Model;
 // How many words wait at most.
 const CHUNK_WORDS: usize = 64;
 
-/// The words after those of a group that wait to be added to it, a chunk of them at a time. This project's own.
+/// The words after those of a group that wait to be added to it, a chunk of them at a time.
 #[derive(Drop)]
 pub(crate) struct Pending {
     chunk: [u64; CHUNK_WORDS],

@@ -1,5 +1,7 @@
 //! What each step on the table tells.
-ghost use Rattle.lc_stage.specs.Staging.{knew_durable, knew_stored, joining, seals, clears_one, clears_ended, reopens, hears, note_of, looked, exchanged, put, closed, headed, copied, published, agreed, newcomer, with_commit, no_commit, only_commit};
+ghost use Rattle.lc_stage.specs.Staging.{knew_durable, knew_stored, joining, seals, clears_one, clears_ended, reopens};
+ghost use Rattle.lc_stage.specs.Staging.{hears, note_of, looked, exchanged, put, closed, headed, copied, published};
+ghost use Rattle.lc_stage.specs.Staging.{agreed, newcomer, with_commit, no_commit, only_commit};
 ghost use Rattle.std.specs.Prelude.{max};
 
 use crate::stage_view::StageView;

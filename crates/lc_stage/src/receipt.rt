@@ -51,7 +51,8 @@ impl Receipt {
 
     // Whether it is later by round and place than another, and has words.
     pub(crate) fn is_after(&self, other: &Receipt) -> bool
-        requires { (self.now.round < 2 ^ 48) × (other.now.round < 2 ^ 48) × (self.now.place < 32768) × (other.now.place < 32768) }
+        requires { (self.now.round < 2 ^ 48) × (other.now.round < 2 ^ 48) × (self.now.place < 32768)
+            × (other.now.place < 32768) }
         ensures { result ≡ nat_lt (rank_in other.now) (rank_in self.now) }
     {
         let mine = self.round * ROUNDS + self.place as u64;

@@ -1,6 +1,7 @@
 //! The calls that end a round and begin the next.
 ghost use Rattle.std.specs.Prelude.{◌≡◌, ◌⊎◌, ℕ, ◌+◌, ◌<◌, ◌≤◌, ◌^◌, ◌↔◌, max, true, length, IfOk, IfErr, Err};
-ghost use Rattle.lc_stage.specs.Staging.{sealing, clearing, clearing_ended, reopening, hears, seal_of, offset_of, round_of};
+ghost use Rattle.lc_stage.specs.Staging.{sealing, clearing, clearing_ended, reopening, hears, seal_of, offset_of};
+ghost use Rattle.lc_stage.specs.Staging.{round_of};
 ghost use Rattle.lc_stage.specs.Seats.{commit_view, flush_view, IsSeatOf, IsFlusherOf, IsUnsealed, IsSettled};
 ghost use Rattle.lc_stage.specs.declared.fault.StageFault.TheVariants.{Sealed, RoundsSpent};
 
@@ -15,7 +16,8 @@ impl Stage {
         requires { IsFlusherOf self.now flusher.old × IsSeatOf self.now seat.old }
         ensures same { IsFlusherOf self.now flusher.new × IsSeatOf self.now seat.new }
         ensures seat { commit_view seat.new ≡ commit_view seat.old }
-        ensures heard { flush_view flusher.new ≡ hears (max (flush_view flusher.old).heard (commit_view seat.old).seen) (flush_view flusher.old) }
+        ensures heard { flush_view flusher.new
+            ≡ hears (max (flush_view flusher.old).heard (commit_view seat.old).seen) (flush_view flusher.old) }
     {
         let shared = &self.table.shared;
         let carrier = shared.split_seat::<Note>(&mut seat.seat);
@@ -28,7 +30,9 @@ impl Stage {
         requires own { IsFlusherOf self.now flusher.old }
         requires heard { at ≤ (flush_view flusher.old).heard }
         ensures same { IsFlusherOf self.now flusher.new }
-        ensures ok { IfOk result (λ _. (flush_view flusher.new ≡ sealing (offset_of at) (flush_view flusher.old)) × (round_of at ≡ length (flush_view flusher.old).past) × (length (flush_view flusher.old).taken ≤ offset_of at)) }
+        ensures ok { IfOk result (λ _. (flush_view flusher.new ≡ sealing (offset_of at) (flush_view flusher.old))
+            × (round_of at ≡ length (flush_view flusher.old).past)
+            × (length (flush_view flusher.old).taken ≤ offset_of at)) }
         ensures sealed { (result ≡ Err Sealed) ↔ (seal_of at ≡ 1) }
         ensures refused { IfErr result (IsUnsealed at (flush_view flusher.old) (flush_view flusher.new)) }
     {
@@ -49,10 +53,15 @@ impl Stage {
     /// which is sealed, with all its records taken and durable. One store a place.
     pub fn clear(&self, flusher: &mut FlushSeat)
         requires own { IsFlusherOf self.now flusher.old }
-        requires settled { ((flush_view flusher.old).ended_cleared < (flush_view flusher.old).ended) ⊎ IsSettled (flush_view flusher.old) }
+        requires settled { ((flush_view flusher.old).ended_cleared < (flush_view flusher.old).ended)
+            ⊎ IsSettled (flush_view flusher.old) }
         ensures same { IsFlusherOf self.now flusher.new }
-        ensures before { (flush_view flusher.old).ended_cleared < (flush_view flusher.old).ended → flush_view flusher.new ≡ record (flush_view flusher.old) { ended_cleared = (flush_view flusher.old).ended } }
-        ensures present { (flush_view flusher.old).ended_cleared ≡ (flush_view flusher.old).ended → flush_view flusher.new ≡ record (flush_view flusher.old) { cleared = (flush_view flusher.old).sealed_at } }
+        ensures before { (flush_view flusher.old).ended_cleared < (flush_view flusher.old).ended
+            → flush_view flusher.new
+            ≡ record (flush_view flusher.old) { ended_cleared = (flush_view flusher.old).ended } }
+        ensures present { (flush_view flusher.old).ended_cleared ≡ (flush_view flusher.old).ended
+            → flush_view flusher.new
+            ≡ record (flush_view flusher.old) { cleared = (flush_view flusher.old).sealed_at } }
     {
         if flusher.ended_cleared < flusher.ended {
             'earlier: while flusher.ended_cleared < flusher.ended {
@@ -74,7 +83,8 @@ impl Stage {
         ensures same { IsFlusherOf self.now flusher.new }
         ensures ok { IfOk result (λ _. flush_view flusher.new ≡ reopening (flush_view flusher.old)) }
         ensures spent { (result ≡ Err RoundsSpent) ↔ (1 + length (flush_view flusher.old).past ≡ 2 ^ 48) }
-        ensures refused { IfErr result (λ fault. (fault ≡ RoundsSpent) × (flush_view flusher.new ≡ flush_view flusher.old)) }
+        ensures refused { IfErr result (λ fault. (fault ≡ RoundsSpent)
+            × (flush_view flusher.new ≡ flush_view flusher.old)) }
     {
         if flusher.round == LAST_ROUND {
             return Err(StageFault::RoundsSpent);

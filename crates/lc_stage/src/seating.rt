@@ -1,7 +1,8 @@
 //! The stage at the start, and its seats.
 ghost use Rattle.std.specs.Prelude.{◌≡◌, ℕ, ◌<◌, ◌++◌, IfOk, IfSome, IfNone};
 ghost use Rattle.lc_stage.specs.Receipts.{IsReceiptOf};
-ghost use Rattle.lc_stage.specs.Staging.{flusher, newcomer, joining, latest, learns_durable, with_receipt, Agree, HasReached};
+ghost use Rattle.lc_stage.specs.Staging.{flusher, newcomer, joining, latest, learns_durable, with_receipt, Agree};
+ghost use Rattle.lc_stage.specs.Staging.{HasReached};
 ghost use Rattle.lc_stage.specs.Seats.{commit_view, flush_view, IsSeatOf, IsFlusherOf, IsIdle};
 
 use crate::layout::DURABLE;
@@ -129,8 +130,12 @@ impl Stage {
         requires idle { IsIdle (commit_view other) }
         ensures same { IsFlusherOf self.now flusher.new × IsSeatOf self.now result.0 }
         ensures flusher { flush_view flusher.new ≡ flush_view flusher.old }
-        ensures some { IfSome result.1 (λ receipt. HasReached (flush_view flusher.old).published (commit_view other) × IsReceiptOf (latest (commit_view other).mine) receipt × (commit_view result.0 ≡ with_receipt (learns_durable (flush_view flusher.old).published (commit_view other)))) }
-        ensures none { IfNone result.1 (¬ HasReached (flush_view flusher.old).published (commit_view other) × (commit_view result.0 ≡ learns_durable (flush_view flusher.old).published (commit_view other))) }
+        ensures some { IfSome result.1 (λ receipt. HasReached (flush_view flusher.old).published (commit_view other)
+            × IsReceiptOf (latest (commit_view other).mine) receipt
+            × (commit_view result.0
+            ≡ with_receipt (learns_durable (flush_view flusher.old).published (commit_view other)))) }
+        ensures none { IfNone result.1 (¬ HasReached (flush_view flusher.old).published (commit_view other)
+            × (commit_view result.0 ≡ learns_durable (flush_view flusher.old).published (commit_view other))) }
     {
         let CommitSeat {
             seat: theirs,

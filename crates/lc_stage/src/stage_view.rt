@@ -2,7 +2,8 @@
 use atomic_table::TableRule;
 use std::collections::LinkedList;
 
-/// A run of places that one seat has reserved in a round. Its header, the first of its words, is 0 until it is closed. No value of it is made.
+/// A run of places that one seat has reserved in a round. Its header, the first of its words, is 0 until it is closed.
+/// No value of it is made.
 pub struct Reservation {
     pub round: u64,
     pub place: u64,

@@ -14,8 +14,8 @@ use std::mem::replace;
 // A map of more has no room in memory: with the first part, there are fewer than 2^63.
 const MOST_BEHIND: usize = isize::MAX as usize - 1;
 
-/// The parts that are kept, each found by its number. Contracts see them as a list, ascending by number. The first of them
-/// takes no memory.
+/// The parts that are kept, each found by its number. Contracts see them as a list, ascending by number. The first of
+/// them takes no memory.
 #[derive(Drop)]
 pub struct HeldParts {
     first: Option<Part>,

@@ -1,9 +1,11 @@
 //! What a peer has of a segment's records that are not handed out yet.
-ghost use Rattle.std.specs.Prelude.{◌≡◌, ◌+◌, ◌⊎◌, ◌<◌, ◌≤◌, ◌^◌, ◌↔◌, [], ◌∷◌, ◌++◌, false, true, length, IfOk, IfErr, IsSome, IsTrue, OnOk, OnErr};
+ghost use Rattle.std.specs.Prelude.{◌≡◌, ◌+◌, ◌⊎◌, ◌<◌, ◌≤◌, ◌^◌, ◌↔◌, [], ◌∷◌, ◌++◌, false, true, length, IfOk, IfErr};
+ghost use Rattle.std.specs.Prelude.{IsSome, IsTrue, OnOk, OnErr};
 ghost use Rattle.std.specs.Option.{ForSome};
 ghost use Rattle.lc_record.specs.Part.{part_of};
 ghost use Rattle.lc_record.specs.Record.{Writes};
-ghost use Rattle.lc_token.specs.Backlog.{Ascends, HandsOut, HandsOutKept, IsNext, PassesOn, Receives, advanced, counted, due_behind, forgetting, fresh, is_known, keeping};
+ghost use Rattle.lc_token.specs.Backlog.{Ascends, HandsOut, HandsOutKept, IsNext, PassesOn, Receives, advanced};
+ghost use Rattle.lc_token.specs.Backlog.{counted, due_behind, forgetting, fresh, is_known, keeping};
 
 use crate::due::Due;
 use crate::held_parts::HeldParts;
@@ -70,8 +72,8 @@ impl HoldBack {
         seq <= self.applied || self.kept.contains(seq)
     }
 
-    /// Whether a record with this number can be put in place with no copy of its part: it is the next, and no part is due
-    /// or kept. It takes no memory.
+    /// Whether a record with this number can be put in place with no copy of its part: it is the next, and no part is
+    /// due or kept. It takes no memory.
     pub fn is_next(&self, seq: u64) -> bool
         ensures { IsTrue result ↔ IsNext self.now seq }
     {
@@ -86,10 +88,10 @@ impl HoldBack {
         !self.due.is_empty()
     }
 
-    /// Receives a record that has a lock on the segment: `Part::number_in` tells. Of its number, with that up to which
-    /// all are applied: one that was applied or is kept is `Ignored`, and takes no memory; the next is `Applied`, with
-    /// all kept ones that follow on without a hole, up to the number in the answer; a greater one is `HeldBack`. Fails
-    /// for want of memory alone, and then changes nothing.
+    /// Receives a record that has a lock on the segment: `Part::number_in` tells. Its number is compared with that up
+    /// to which all are applied. One that was applied or is kept is `Ignored`, and takes no memory. The next is
+    /// `Applied`, with all kept ones that follow on without a hole, up to the number in the answer. A greater one is
+    /// `HeldBack`. Fails for want of memory alone, and then changes nothing.
     pub fn receive(&mut self, alloc: Global, record: &Record) -> Result<Received, TokenFault>
         requires { IsSome (part_of self.old.segment «record».now) }
 
@@ -111,9 +113,12 @@ impl HoldBack {
         ensures no_memory { IfErr result (λ fault. fault ≡ TokenFault.NoMemory) }
         ensures err { OnErr result (self.new ≡ self.old) }
 
-        // Memory is asked for only for a part that is not known: for a copy of its ranges, or for its place beside another part.
-        ensures unknown { OnErr result (ForSome (part_of self.old.segment «record».now) (λ part. is_known self.old part.seq ≡ false)) }
-        ensures memory { OnErr result (Writes self.old.segment «record».now.ranges ⊎ (0 < length self.old.due + length self.old.kept)) }
+        // Memory is asked for only for a part that is not known: for a copy of its ranges, or for its place beside
+        // another part.
+        ensures unknown { OnErr result (ForSome (part_of self.old.segment «record».now) (λ part.
+            is_known self.old part.seq ≡ false)) }
+        ensures memory { OnErr result (Writes self.old.segment «record».now.ranges
+            ⊎ (0 < length self.old.due + length self.old.kept)) }
     {
         let seq = Part::number_in(record, self.segment).unwrap();
         if self.knows(seq) {
@@ -144,8 +149,8 @@ impl HoldBack {
         self.kept.len()
     }
 
-    /// Keeps a part that is not known, until the numbers before it have come. Fails for want of memory alone, which it takes
-    /// only where a part is kept already, and then changes nothing.
+    /// Keeps a part that is not known, until the numbers before it have come. Fails for want of memory alone, which it
+    /// takes only where a part is kept already, and then changes nothing.
     pub fn keep(&mut self, part: Part) -> Result<(), AllocError>
         requires { is_known self.old part.seq ≡ false }
         ensures kept { OnOk result (self.new ≡ keeping self.old part) }
@@ -163,8 +168,8 @@ impl HoldBack {
         self.kept.remove(seq);
     }
 
-    /// Hands out the kept part with the next number, and counts it as applied; None exactly where no part with that number
-    /// is kept. What is due stays. It takes no memory.
+    /// Hands out the kept part with the next number, and counts it as applied; None exactly where no part with that
+    /// number is kept. What is due stays. It takes no memory.
     pub fn take_next(&mut self) -> Option<Part>
         ensures handed { HandsOutKept self.old result self.new }
         ensures segment { self.new.segment ≡ self.old.segment }
@@ -184,9 +189,9 @@ impl HoldBack {
         self.applied = seq;
     }
 
-    /// Counts a record as applied whose part the node puts in place itself: it has the next number, and no part is due or
-    /// kept, as `is_next` tells. What it answers and leaves is as if the part had been received, and handed out at once. It
-    /// takes no memory.
+    /// Counts a record as applied whose part the node puts in place itself: it has the next number, and no part is due
+    /// or kept, as `is_next` tells. What it answers and leaves is as if the part had been received, and handed out at
+    /// once. It takes no memory.
     pub fn pass_on(&mut self, seq: u64) -> Received
         requires { IsNext self.old seq }
         ensures answer { result ≡ Received.Applied seq }
@@ -197,12 +202,13 @@ impl HoldBack {
         Received::Applied(seq)
     }
 
-    // Applies a part with the next number, and the kept ones that follow on. All room is made first. It takes memory only where
-    // another part is due or kept.
+    // Applies a part with the next number, and the kept ones that follow on. All room is made first. It takes memory
+    // only where another part is due or kept.
     fn apply(&mut self, part: Part) -> Result<u64, AllocError>
         requires next { part.seq ≡ self.old.applied + 1 }
         requires unknown { is_known self.old part.seq ≡ false }
-        ensures advanced { OnOk result (self.new ≡ advanced self.old (due_behind self.old.applied (part ∷ self.old.kept))) }
+        ensures advanced { OnOk result (self.new
+            ≡ advanced self.old (due_behind self.old.applied (part ∷ self.old.kept))) }
         ensures number { IfOk result (λ number. number ≡ self.new.applied) }
         ensures err { OnErr result (self.new ≡ self.old) }
         ensures memory { OnErr result (0 < length self.old.due + length self.old.kept) }

@@ -15,7 +15,8 @@ pub fn next_numbers()
 pub fn any_order()
     ensures due { (segment applied : ℕ) (calls : List Call) (new : Backlog) → Follows (fresh segment applied) calls new
         → handed calls ++ new.due ≡ due_behind applied (received calls) }
-    ensures applied { (segment applied : ℕ) (calls : List Call) (new : Backlog) → Follows (fresh segment applied) calls new
+    ensures applied { (segment applied : ℕ) (calls : List Call) (new : Backlog)
+        → Follows (fresh segment applied) calls new
         → new.applied ≡ applied + length (due_behind applied (received calls)) }
 {}
 
@@ -29,5 +30,6 @@ pub fn same_records()
 
 /// A part that was not known, and is kept and forgotten again, leaves a backlog as it was.
 pub fn forgets_what_it_kept()
-    ensures { (old : Backlog) (part : Part) → is_known old part.seq ≡ false → forgetting (keeping old part) part.seq ≡ old }
+    ensures { (old : Backlog) (part : Part) → is_known old part.seq ≡ false
+        → forgetting (keeping old part) part.seq ≡ old }
 {}

@@ -4,8 +4,8 @@ ghost use Rattle.lc_token.specs.Token.{HasOlder, IsOldestDirty, least_with};
 
 use lc_page::PageVector;
 
-/// What says which node may change a segment (log-based coherency: Feeley et al., OSDI 1994). There is one of a segment:
-/// it is placed or sent, and a dropped one is lost until the next recovery.
+/// What says which node may change a segment (log-based coherency: Feeley et al., OSDI 1994). There is one of a
+/// segment: it is placed or sent, and a dropped one is lost until the next recovery.
 #[derive(Drop)]
 pub struct Token {
     pub(crate) segment: u32,
@@ -75,7 +75,7 @@ impl Token {
     /// Notes that a page was written under a number: `clean` rises to the least number that a dirty page has on the
     /// disk, and where no page is dirty to the token's own. It takes no memory. It looks at the pages after the written
     /// one as far as the first that holds `clean` back, and at all of them only where none does: so pages that are
-    /// written in order cost their number. This project's own.
+    /// written in order cost their number.
     pub fn written(&mut self, page: u32, number: u64)
         requires { page < length self.old.pages }
         ensures { IsWritten self.old page number self.new }

@@ -1,12 +1,13 @@
 //! The place of a segment's token at a node.
-ghost use Rattle.std.specs.Prelude.{◌≡◌, ◌+◌, ◌<◌, ◌≤◌, ◌^◌, ◌↔◌, true, false, [], length, slice_set, IfOk, IsOk, IsSome, IsSomeAnd, IsTrue, OnOk, OnErr};
+ghost use Rattle.std.specs.Prelude.{◌≡◌, ◌+◌, ◌<◌, ◌≤◌, ◌^◌, ◌↔◌, true, false, [], length, slice_set, IfOk, IsOk};
+ghost use Rattle.std.specs.Prelude.{IsSome, IsSomeAnd, IsTrue, OnOk, OnErr};
 ghost use Rattle.std.specs.Option.{ForSome, option_copied};
 
 use crate::{HoldBack, Token, TokenFault};
 use std::marker::Model;
 
-/// The place of one segment's token at a node: the token stands there, or it is empty. Contracts see it as a `Standing`.
-/// A token that stands there is of the segment.
+/// The place of one segment's token at a node: the token stands there, or it is empty. Contracts see it as a
+/// `Standing`. A token that stands there is of the segment.
 #[derive(Drop)]
 pub struct TokenPlace {
     segment: u32,
@@ -53,11 +54,12 @@ impl TokenPlace {
         self.token.as_ref()
     }
 
-    /// Counts a record of the segment that is closed here: the token's number rises by one. A token stands here, and has
-    /// not used its last number, 2^60. It takes no memory.
+    /// Counts a record of the segment that is closed here: the token's number rises by one. A token stands here, and
+    /// has not used its last number, 2^60. It takes no memory.
     pub fn count_record(&mut self)
         requires { IsSomeAnd self.old.token (λ t. t.seq < 2 ^ 60) }
-        ensures { ForSome self.old.token (λ t. self.new ≡ record self.old { token = Some (record t { seq = t.seq + 1 }) }) }
+        ensures { ForSome self.old.token (λ t. self.new
+            ≡ record self.old { token = Some (record t { seq = t.seq + 1 }) }) }
     {
         if let Some(token) = &mut self.token {
             token.seq += 1;
@@ -98,9 +100,9 @@ impl TokenPlace {
     ///
     /// # Errors
     ///
-    /// In this order: `NotHere` where no token stands here; `Held` where a transaction holds the segment; `Writing` where
-    /// a page of the segment is being written; `Unflushed` where of the records that the node reserved not all are
-    /// stable. Nothing has changed then.
+    /// In this order: `NotHere` where no token stands here; `Held` where a transaction holds the segment; `Writing`
+    /// where a page of the segment is being written; `Unflushed` where of the records that the node reserved not all
+    /// are stable. Nothing has changed then.
     pub fn leave(
         &mut self,
         held: bool,
@@ -110,7 +112,8 @@ impl TokenPlace {
     ) -> Result<Token, TokenFault>
         ensures not_here { (result ≡ Err (TokenFault.NotHere self.old.segment)) ↔ (self.old.token ≡ None) }
         ensures held { (result ≡ Err TokenFault.Held) ↔ (IsSome self.old.token × (held ≡ true)) }
-        ensures writing { (result ≡ Err TokenFault.Writing) ↔ (IsSome self.old.token × (held ≡ false) × (writing ≡ true)) }
+        ensures writing { (result ≡ Err TokenFault.Writing)
+            ↔ (IsSome self.old.token × (held ≡ false) × (writing ≡ true)) }
         ensures unflushed { (result ≡ Err TokenFault.Unflushed)
             ↔ (IsSome self.old.token × (held ≡ false) × (writing ≡ false) × (stable < reserved)) }
         ensures done { IsOk result

@@ -15,7 +15,8 @@ use lc_record::{Lock, View};
 ///
 /// Of the locks that are above what is known, the one of the least segment, and of that the one with the least number.
 pub fn may_reset(words: &[u64], known: &KnownClean) -> Result<(), Unclean>
-    ensures unclean { (segment seq : ℕ) → (result ≡ Err (record { segment = segment; seq = seq })) ↔ IsLeastPair (IsAbove words.now (known_of known.now)) segment seq }
+    ensures unclean { (segment seq : ℕ) → (result ≡ Err (record { segment = segment; seq = seq }))
+        ↔ IsLeastPair (IsAbove words.now (known_of known.now)) segment seq }
     ensures clean { IsOk result ↔ AreKnown words.now (known_of known.now) }
 {
     let mut place = 0;
@@ -38,7 +39,8 @@ pub fn may_reset(words: &[u64], known: &KnownClean) -> Result<(), Unclean>
 /// Those of `may_reset`.
 pub fn may_reset_kept(words: &[u64], known: &KnownClean) -> Result<(), Unclean>
     requires { AreRecords words.now }
-    ensures unclean { (segment seq : ℕ) → (result ≡ Err (record { segment = segment; seq = seq })) ↔ IsLeastPair (IsAbove words.now (known_of known.now)) segment seq }
+    ensures unclean { (segment seq : ℕ) → (result ≡ Err (record { segment = segment; seq = seq }))
+        ↔ IsLeastPair (IsAbove words.now (known_of known.now)) segment seq }
     ensures clean { IsOk result ↔ AreKnown words.now (known_of known.now) }
 {
     if let Some(least) = least_kept(words, known) {
@@ -85,8 +87,8 @@ pub fn above(lock: Lock, known: &KnownClean) -> Option<Unclean>
     (known.known_clean(segment) < seq).then_some(Unclean { segment, seq })
 }
 
-/// Of two locks the one of the lesser segment, and of the same segment the one with the lesser number; where there is but one,
-/// that one. It takes no memory.
+/// Of two locks the one of the lesser segment, and of the same segment the one with the lesser number; where there is
+/// but one, that one. It takes no memory.
 pub fn lesser(one: Option<Unclean>, other: Option<Unclean>) -> Option<Unclean>
     ensures { result ≡ lesser one other }
 {

@@ -1,5 +1,6 @@
 //! The beginning of a transaction.
-ghost use Rattle.std.specs.Prelude.{◌≡◌, ◌↔◌, ◌<◌, ◌⊎◌, ℕ, List, [], ◌∷◌, length, None, IfOk, OnOk, OnErr, IfErr, IsTrue};
+ghost use Rattle.std.specs.Prelude.{◌≡◌, ◌↔◌, ◌<◌, ◌⊎◌, ℕ, List, [], ◌∷◌, length, None, IfOk, OnOk, OnErr, IfErr};
+ghost use Rattle.std.specs.Prelude.{IsTrue};
 ghost use Rattle.lc_tx.specs.Images.{IsHere, IsLockable, IsFirstTaken, IsSame};
 ghost use Rattle.lc_tx.specs.Locking.{CanLock};
 ghost use Rattle.lc_tx.specs.Fault.{is_of_begin};
@@ -28,8 +29,8 @@ impl Tx {
     ///
     /// # Errors
     ///
-    /// `NotHere` or `Busy` of the least segment of both lists that cannot be locked, and `NoMemory`, only for more than 16
-    /// segments of one kind. The images are then as before.
+    /// `NotHere` or `Busy` of the least segment of both lists that cannot be locked, and `NoMemory`, only for more than
+    /// 16 segments of one kind. The images are then as before.
     pub fn begin<I: Images>(
         alloc: Global,
         images: &mut I,

@@ -1,5 +1,6 @@
 //! The changes of a transaction.
-ghost use Rattle.std.specs.Prelude.{◌≡◌, ◌≢◌, ◌↔◌, ◌+◌, ◌-◌, ◌^◌, ◌<◌, ◌≤◌, ℕ, IsTrue, IsOk, length, take, drop, min, slice_index, Some, None, IfOk, OnOk, OnErr, IfErr};
+ghost use Rattle.std.specs.Prelude.{◌≡◌, ◌≢◌, ◌↔◌, ◌+◌, ◌-◌, ◌^◌, ◌<◌, ◌≤◌, ℕ, IsTrue, IsOk, length, take, drop, min};
+ghost use Rattle.std.specs.Prelude.{slice_index, Some, None, IfOk, OnOk, OnErr, IfErr};
 ghost use Rattle.lc_record.specs.Transaction.{is_member};
 ghost use Rattle.lc_range.specs.RangeSet.{AddsPositions, EndWithin, IsCanonical, MissesSome, NeedsRunsAbove};
 ghost use Rattle.lc_range.specs.Undo.{KeepsOld, LiesBelow};
@@ -127,7 +128,8 @@ impl Tx {
         ensures locked { self.new.locked ≡ self.old.locked }
         ensures reading { self.new.reading ≡ self.old.reading }
         ensures adds { OnOk result (AddsPositions self.old.set segment offset len self.new.set) }
-        ensures keeps { OnOk result (KeepsOld self.old.undo self.old.set segment offset len (slice_index bytes.now) self.new.undo) }
+        ensures keeps { OnOk result (KeepsOld self.old.undo self.old.set segment offset len
+            (slice_index bytes.now) self.new.undo) }
         ensures below { OnOk result ((s bound : ℕ) → LiesBelow self.old.undo s bound
             → (s ≡ segment → length bytes.now ≤ bound) → LiesBelow self.new.undo s bound) }
         ensures alone { OnOk result (KeepsSetAlone self.old → KeepsSetAlone self.new) }
@@ -135,7 +137,8 @@ impl Tx {
         ensures err { OnErr result (self.new ≡ self.old) }
         ensures outside { (result ≡ Err TxFault.OutOfSegment) ↔ (min (length bytes.now) (2 ^ 32 - 1) < offset + len) }
         ensures too_many { (result ≡ Err TxFault.TooManyRanges)
-            ↔ ((offset + len ≤ min (length bytes.now) (2 ^ 32 - 1)) × NeedsRunsAbove 64 self.old.set segment offset len) }
+            ↔ ((offset + len ≤ min (length bytes.now) (2 ^ 32 - 1))
+            × NeedsRunsAbove 64 self.old.set segment offset len) }
         ensures no_memory { result ≡ Err TxFault.NoMemory → (offset + len ≤ min (length bytes.now) (2 ^ 32 - 1))
             × (¬ NeedsRunsAbove 64 self.old.set segment offset len) × MissesSome self.old.set segment offset len }
         ensures needs { result ≡ Err TxFault.NoMemory → RangeTakesMemory self.old segment offset len }

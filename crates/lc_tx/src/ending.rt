@@ -15,8 +15,8 @@ use lc_record::{Items, Layout, MAX_WORDS};
 use std::alloc::{AllocError, Global};
 
 impl Tx {
-    /// How the record of the transaction is laid out, in 4096 words at most and for each node alike, or None where nothing is
-    /// set. It takes no memory, so that a caller looks for room in its log before `spell_end` takes some. This project's own.
+    /// How the record of the transaction is laid out, in 4096 words at most and for each node alike, or None where
+    /// nothing is set. It takes no memory, so that a caller looks for room in its log before `spell_end` takes some.
     ///
     /// # Errors
     ///
@@ -57,8 +57,8 @@ impl Tx {
     }
 
     /// The record of the transaction, as a node is about to log it: the next number of each segment that has a set
-    /// position, and the final bytes of all that was set, written straight from the images into memory that is taken at
-    /// once. Idea: RVM's new values (Satyanarayanan et al., TOCS 1994).
+    /// position, and the final bytes of all that was set. It is written straight from the images into memory that is
+    /// taken at once. Idea: RVM's new values (Satyanarayanan et al., TOCS 1994).
     ///
     /// # Errors
     ///
@@ -100,10 +100,10 @@ impl Tx {
         }
     }
 
-    /// The words of the record of the transaction, as a node, numbered up to 7, is about to log it, of which `layout` has
-    /// told that it is laid out so: the next number of each segment that has a set position, and the final bytes of all that
-    /// was set. They are written straight from the images into the memory of a list whose own words go, such as those of a
-    /// record before. Idea: RVM's new values (Satyanarayanan et al., TOCS 1994).
+    /// The words of the record of the transaction, as a node, numbered up to 7, is about to log it. `layout` has told
+    /// that it is laid out so: the next number of each segment that has a set position, and the final bytes of all that
+    /// was set. They are written straight from the images into the memory of a list whose own words go, such as those
+    /// of a record before. Idea: RVM's new values (Satyanarayanan et al., TOCS 1994).
     ///
     /// # Errors
     ///
@@ -168,9 +168,9 @@ impl Tx {
         locking::unlock(images, self.reading.as_slice(), self.thread);
     }
 
-    /// Ends the transaction without a commit: what it locked for writing has the bytes that it had, and is free; what it
-    /// locked for reading has one reader less, and is free where it was the last. It takes no memory. Idea: RVM's restore
-    /// mode (Satyanarayanan et al., TOCS 1994).
+    /// Ends the transaction without a commit: what it locked for writing has the bytes that it had, and is free; what
+    /// it locked for reading has one reader less, and is free where it was the last. It takes no memory. Idea: RVM's
+    /// restore mode (Satyanarayanan et al., TOCS 1994).
     pub fn abort<I: Images>(self, images: &mut I)
         requires runs { RunsOn I.Images images.old self }
         ensures { AreRestored I.Images self.undo self.thread self.locked.items self.reading.items images.old images.new }
@@ -179,8 +179,8 @@ impl Tx {
         self.release(images);
     }
 
-    /// Ends the transaction without a commit, as `abort` does. It is idle then, with its thread as it was and the memory of
-    /// its lists kept for the next one.
+    /// Ends the transaction without a commit, as `abort` does. It is idle then, with its thread as it was and the
+    /// memory of its lists kept for the next one.
     pub fn abort_in_place<I: Images>(&mut self, images: &mut I)
         requires runs { RunsOn I.Images images.old self.old }
         ensures restored { AreRestored I.Images self.old.undo self.old.thread self.old.locked.items self.old.reading.items
@@ -206,8 +206,8 @@ impl Tx {
         self.unlock(images);
     }
 
-    /// Ends the transaction with its writes, as `release` does. It is idle then, with its thread as it was and the memory
-    /// of its lists kept for the next one.
+    /// Ends the transaction with its writes, as `release` does. It is idle then, with its thread as it was and the
+    /// memory of its lists kept for the next one.
     pub fn release_in_place<I: Images>(&mut self, images: &mut I)
         requires runs { RunsOn I.Images images.old self.old }
         ensures released { AreReleased I.Images self.old.thread self.old.locked.items self.old.reading.items

@@ -8,7 +8,7 @@ use crate::Holders;
 use lc_record::{Part, View};
 
 /// A segment's bytes as a node has them, with those of open transactions, and the threads whose transactions hold the
-/// segment. This project's own.
+/// segment.
 #[derive(Drop)]
 pub struct Image {
     pub(crate) bytes: Vec<u8>,
@@ -64,10 +64,11 @@ impl Image {
         }
     }
 
-    /// Lays the bytes that a record has for a segment over its own, from where the record's words stand, the first range
-    /// first. What reaches past them is left out. It takes no memory, and copies no range. Idea: as `put`.
+    /// Lays the bytes that a record has for a segment over its own, from where the record's words stand, the first
+    /// range first. What reaches past them is left out. It takes no memory, and copies no range. Idea: as `put`.
     pub fn put_from(&mut self, segment: u32, view: &View<'_>)
-        ensures bytes { self.new.bytes.items ≡ laid_over (filter (λ range. range.segment == segment) view.now.ranges) self.old.bytes.items }
+        ensures bytes { self.new.bytes.items
+            ≡ laid_over (filter (λ range. range.segment == segment) view.now.ranges) self.old.bytes.items }
         ensures holders { self.new.holders ≡ self.old.holders }
     {
         view.put_on(segment, 0, self.bytes.as_mut_slice());

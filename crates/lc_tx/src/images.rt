@@ -37,11 +37,13 @@ pub trait Images {
         → image_of (with_image s segment image) segment ≡ image };
 
     ghost other_image: { (s : Self) (segment other : ℕ) (image : Picture) → IsSome (number_of s segment)
-        → IsSome (number_of s other) → other ≢ segment → image_of (with_image s segment image) other ≡ image_of s other };
+        → IsSome (number_of s other) → other ≢ segment
+        → image_of (with_image s segment image) other ≡ image_of s other };
 
     ghost beside_itself: { (s : Self) → IsSameBeside s s };
 
-    ghost beside_image: { (s : Self) (segment : ℕ) (image : Picture) → IsSome (number_of s segment) → IsSameBeside s (with_image s segment image) };
+    ghost beside_image: { (s : Self) (segment : ℕ) (image : Picture) → IsSome (number_of s segment)
+        → IsSameBeside s (with_image s segment image) };
 
     ghost beside_chained: { (s t u : Self) → IsSameBeside s t → IsSameBeside t u → IsSameBeside s u };
 }

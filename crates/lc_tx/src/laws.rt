@@ -1,5 +1,6 @@
 //! Laws of transactions: what is kept of one stands for a transaction of the model.
-ghost use Rattle.std.specs.Prelude.{◌≡◌, ◌≢◌, ◌↔◌, ◌+◌, ◌<◌, ◌≤◌, ◌++◌, ℕ, List, [], None, true, false, map, length, IsSome, IsTrue};
+ghost use Rattle.std.specs.Prelude.{◌≡◌, ◌≢◌, ◌↔◌, ◌+◌, ◌<◌, ◌≤◌, ◌++◌, ℕ, List, [], None, true, false, map, length};
+ghost use Rattle.std.specs.Prelude.{IsSome, IsTrue};
 ghost use Rattle.lc_record.specs.Content.{Content, segment_of};
 ghost use Rattle.lc_record.specs.Transaction.{Transaction, is_member, all_set};
 ghost use Rattle.lc_record.specs.Marks.{is_empty, ranges, ascending, marked, written};
@@ -20,7 +21,8 @@ use crate::Images;
 
 /// What nobody writes and nobody reads is free.
 pub fn who_is_free()
-    ensures { (holders : Held) → writer_of holders ≡ None → ((thread : ℕ) → reads holders thread ≡ false) → holders ≡ Free }
+    ensures { (holders : Held) → writer_of holders ≡ None → ((thread : ℕ) → reads holders thread ≡ false)
+        → holders ≡ Free }
 {}
 
 /// A transaction that has begun stands for one with nothing set, on the content that its images show.
@@ -33,7 +35,8 @@ pub fn begun<I: Images>()
 /// A set range marks the transaction.
 pub fn range_set<I: Images>()
     ensures { (images later : I) (old new : Kept) (segment offset len : ℕ) (content : Content) (t : Transaction)
-        → StandsFor I.Images images old content t → Locked old segment → SetsRange I.Images images old segment offset len new
+        → StandsFor I.Images images old content t → Locked old segment
+        → SetsRange I.Images images old segment offset len new
         → IsSame I.Images images later → RunsOn I.Images images old → RunsOn I.Images later new
         → StandsFor I.Images later new content (marked t segment offset len) }
 {}
@@ -41,7 +44,8 @@ pub fn range_set<I: Images>()
 /// A write is one of the transaction's.
 pub fn bytes_written<I: Images>()
     ensures { (old new : I) (tx : Kept) (segment offset : ℕ) (bytes : List ℕ) (content : Content) (t : Transaction)
-        → StandsFor I.Images old tx content t → RunsOn I.Images old tx → Locked tx segment → AreSet tx segment offset (length bytes)
+        → StandsFor I.Images old tx content t → RunsOn I.Images old tx → Locked tx segment
+        → AreSet tx segment offset (length bytes)
         → IsWritten I.Images old segment offset bytes new
         → StandsFor I.Images new tx content (written t segment offset bytes) }
 {}
@@ -49,18 +53,21 @@ pub fn bytes_written<I: Images>()
 /// What leaves the images as they are leaves what is stood for.
 pub fn same_images<I: Images>()
     ensures { (old new : I) (tx : Kept) (content : Content) (t : Transaction)
-        → StandsFor I.Images old tx content t → RunsOn I.Images old tx → IsSame I.Images old new → StandsFor I.Images new tx content t }
+        → StandsFor I.Images old tx content t → RunsOn I.Images old tx → IsSame I.Images old new
+        → StandsFor I.Images new tx content t }
 {}
 
 /// What leaves the segments that it locked leaves a transaction its images.
 pub fn runs_beside<I: Images>()
-    ensures runs { (old new : I) (tx : Kept) → RunsOn I.Images old tx → KeepsLocked I.Images old new tx → RunsOn I.Images new tx }
-    ensures apart { (old new : I) (segments : List ℕ) (tx : Kept) → RunsOn I.Images old tx → IsSameBut I.Images segments old new
+    ensures runs { (old new : I) (tx : Kept) → RunsOn I.Images old tx → KeepsLocked I.Images old new tx
+        → RunsOn I.Images new tx }
+    ensures apart { (old new : I) (segments : List ℕ) (tx : Kept) → RunsOn I.Images old tx
+        → IsSameBut I.Images segments old new
         → ((s : ℕ) → Holds tx s → is_member s segments ≡ false) → KeepsLocked I.Images old new tx }
 {}
 
-/// What one transaction begins, writes, aborts or releases leaves another its images, that of another thread at the same
-/// node.
+/// What one transaction begins, writes, aborts or releases leaves another its images, that of another thread at the
+/// same node.
 pub fn keep_beside<I: Images>()
     ensures begin { (old new : I) (thread : ℕ) (segments reading : List ℕ) (tx other : Kept) → RunsOn I.Images old other
         → Begins I.Images thread segments reading old new tx → ((s : ℕ) → IsLockable I.Images old segments reading s)
@@ -81,7 +88,8 @@ pub fn keep_beside<I: Images>()
 /// It leaves what it stands for, on whatever the content has become elsewhere.
 pub fn stands_beside<I: Images>()
     ensures { (old new : I) (tx : Kept) (content other : Content) (t : Transaction)
-        → StandsFor I.Images old tx content t → RunsOn I.Images old tx → KeepsLocked I.Images old new tx → map length other ≡ map length content
+        → StandsFor I.Images old tx content t → RunsOn I.Images old tx → KeepsLocked I.Images old new tx
+        → map length other ≡ map length content
         → ((s : ℕ) → Holds tx s → segment_of s other ≡ segment_of s content) → StandsFor I.Images new tx other t }
 {}
 
@@ -102,7 +110,8 @@ pub fn nothing_is_set<I: Images>()
 /// Positions are set exactly where the transaction's are.
 pub fn set_positions<I: Images>()
     ensures { (images : I) (tx : Kept) (segment offset len : ℕ) (content : Content) (t : Transaction)
-        → StandsFor I.Images images tx content t → AreSet tx segment offset len ↔ (all_set offset len (segment_of segment t.marks) ≡ true) }
+        → StandsFor I.Images images tx content t → AreSet tx segment offset len
+        ↔ (all_set offset len (segment_of segment t.marks) ≡ true) }
 {}
 
 /// The record is the transaction's.
@@ -128,7 +137,8 @@ pub fn read_shows_content<I: Images>()
 /// An abort brings the content back.
 pub fn content_is_back<I: Images>()
     ensures { (old new : I) (tx : Kept) (content : Content) (t : Transaction) (segment : ℕ)
-        → StandsFor I.Images old tx content t → AreRestored I.Images tx.undo tx.thread tx.locked.items tx.reading.items old new → Locked tx segment
+        → StandsFor I.Images old tx content t
+        → AreRestored I.Images tx.undo tx.thread tx.locked.items tx.reading.items old new → Locked tx segment
         → bytes_of I.Images new segment ≡ segment_of segment content }
 {}
 

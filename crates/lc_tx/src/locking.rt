@@ -1,5 +1,6 @@
 //! Which segments are free, and who holds them.
-ghost use Rattle.std.specs.Prelude.{◌≡◌, ◌↔◌, ◌++◌, ◌≤◌, ℕ, ◌<◌, List, [], ◌∷◌, None, IsTrue, length, take, drop, IfOk, IfErr, OnOk, OnErr};
+ghost use Rattle.std.specs.Prelude.{◌≡◌, ◌↔◌, ◌++◌, ◌≤◌, ℕ, ◌<◌, List, [], ◌∷◌, None, IsTrue, length, take, drop, IfOk};
+ghost use Rattle.std.specs.Prelude.{IfErr, OnOk, OnErr};
 ghost use Rattle.smallvec.specs.SmallVec.{small_vec_len};
 ghost use Rattle.lc_record.specs.Transaction.{is_member};
 ghost use Rattle.lc_tx.specs.Images.{IsHere, IsSame};
@@ -108,7 +109,8 @@ pub fn add_beside(
     Ok(())
 }
 
-/// Adds these numbers to an empty set: ascending, each once. It takes no memory for 16. Without memory some may be added.
+/// Adds these numbers to an empty set: ascending, each once. It takes no memory for 16. Without memory some may be
+/// added.
 pub fn add_all(set: &mut SmallVec<u32, 16>, numbers: &[u32]) -> Result<(), AllocError>
     requires { set.old.items ≡ [] }
     ensures set { OnOk result (IsSetOf numbers.now set.new.items) }
@@ -117,8 +119,8 @@ pub fn add_all(set: &mut SmallVec<u32, 16>, numbers: &[u32]) -> Result<(), Alloc
     add_beside(set, &[], numbers)
 }
 
-/// These numbers as a set: ascending, each once, as a transaction lists the segments that it locks. It takes no memory for
-/// 16. This project's own.
+/// These numbers as a set: ascending, each once, as a transaction lists the segments that it locks. It takes no memory
+/// for 16.
 ///
 /// # Errors
 ///

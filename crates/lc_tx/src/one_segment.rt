@@ -4,7 +4,7 @@ ghost use Rattle.lc_tx.specs.OneSegment.{the_images, one_here};
 
 use crate::{Image, Images};
 
-/// The images of a node that has segment 1 alone, with its token. This project's own.
+/// The images of a node that has segment 1 alone, with its token.
 #[derive(Drop)]
 pub struct OneSegment {
     /// Its bytes, with those of an open transaction.
@@ -34,7 +34,8 @@ impl Images for OneSegment {
 
     ghost own_image = { λ s segment image here. refl };
 
-    ghost other_image = { λ s segment other image here there differ. absurd (differ (one_here s segment other here there)) };
+    ghost other_image = { λ s segment other image here there differ. absurd
+        (differ (one_here s segment other here there)) };
 
     ghost beside_itself = { λ s. refl };
 

@@ -13,7 +13,7 @@ use std::mem;
 
 impl Tx {
     /// Makes the record that `prepare_end` makes, in the memory of a list whose own words go, such as those of a
-    /// record before: true, the list has the record's words; false, nothing is set, and the list is as it was. Where it
+    /// record before. True: the list has the record's words. False: nothing is set, and the list is as it was. Where it
     /// has no room for all words of the record, other memory is taken for all of them at once.
     ///
     /// # Errors

@@ -1,5 +1,6 @@
 //! Which threads read a segment.
-ghost use Rattle.std.specs.Prelude.{◌≡◌, ◌<◌, ◌↔◌, ℕ, not, false, ◌&&◌, ◌||◌, ◌==◌, IsTrue, IfSome, None, length, slice_index_or};
+ghost use Rattle.std.specs.Prelude.{◌≡◌, ◌<◌, ◌↔◌, ℕ, not, false, ◌&&◌, ◌||◌, ◌==◌, IsTrue, IfSome, None, length};
+ghost use Rattle.std.specs.Prelude.{slice_index_or};
 ghost use Rattle.lc_tx.specs.Readers.{some_reads};
 
 /// The most threads of a node.
@@ -46,7 +47,8 @@ impl Readers {
     pub(crate) fn without(self, thread: u16) -> Option<Readers>
         ensures others { IfSome result (λ readers. (other : ℕ) → slice_index_or readers.reads other false
             ≡ (not (thread == other) && slice_index_or self.reads other false)) }
-        ensures none { result ≡ None → (other : ℕ) → (not (thread == other) && slice_index_or self.reads other false) ≡ false }
+        ensures none { result ≡ None → (other : ℕ)
+            → (not (thread == other) && slice_index_or self.reads other false) ≡ false }
     {
         let mut reads = self.reads;
         let place = thread as usize;

@@ -8,7 +8,8 @@ use smallvec::SmallVec;
 use std::alloc::Global;
 
 /// A transaction in restore mode: the segments that it locked for writing and those that it locked for reading, the
-/// positions that it has set, and their old bytes. Its writes stand in the images at once. Idea: RVM (Satyanarayanan et al., TOCS 1994).
+/// positions that it has set, and their old bytes. Its writes stand in the images at once. Idea: RVM (Satyanarayanan et
+/// al., TOCS 1994).
 #[derive(Drop)]
 pub struct Tx {
     pub(crate) thread: u16,
@@ -19,8 +20,8 @@ pub struct Tx {
 }
 
 impl Tx {
-    /// A transaction that is idle: it holds no lock, has set nothing and keeps nothing, until `begin_again`. It takes no
-    /// memory.
+    /// A transaction that is idle: it holds no lock, has set nothing and keeps nothing, until `begin_again`. It takes
+    /// no memory.
     pub fn idle(alloc: Global) -> Self
         ensures { IsIdle result }
     {

@@ -1,7 +1,7 @@
 //! Why a call of a transaction is refused.
 use thiserror::Error;
 
-/// Why a call of a transaction is refused. This project's own.
+/// Why a call of a transaction is refused.
 #[derive(Clone, Copy, Debug, PartialEq, Eq, Error)]
 pub enum TxFault {
     /// A transaction holds the segment.
