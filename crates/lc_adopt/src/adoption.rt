@@ -11,15 +11,15 @@ use lc_stage::CommitSeat;
 use std::alloc::Global;
 use std::sync::Wait;
 
-/// The store that the cluster leaves once its threads have ended, which is up: it has all records that were closed, those that
-/// are staged as well as those that are stable. For each node there is a list of its committers' seats, which may be empty: each
-/// record of which one of them has a receipt stands in the node's log, or is of an earlier round and known clean. It waits for
-/// each lock, so who still has a log or a segment lets it wait for ever. This project's own.
+/// The store that the cluster leaves once its threads have ended, which is up: it has all records that were closed,
+/// those that are staged as well as those that are stable. For each node there is a list of its committers' seats,
+/// which may be empty: each record of which one of them has a receipt stands in the node's log, or is of an earlier
+/// round and known clean. It waits for each lock, so who still has a log or a segment lets it wait for ever.
 ///
 /// # Errors
 ///
-/// `Mismatch` of a part that does not fit: what `Cluster::into_parts` refuses, and what `World::adopt` says. `NoMemory`;
-/// `DeviceFault` where an area could not be read. The cluster is gone.
+/// `Mismatch` of a part that does not fit: what `Cluster::into_parts` refuses, and what `World::adopt` says.
+/// `NoMemory`; `DeviceFault` where an area could not be read. The cluster is gone.
 pub fn into_world<D: Area + Drop, R: Wait>(
     cluster: Cluster<D>,
     rt: &R,

@@ -1,5 +1,5 @@
-//! A cluster at rest, or a node that ran alone, becomes a world: where what its threads left is not refused, a store that stands for
-//! a state of the machine and has the record of each receipt.
+//! A cluster at rest, or a node that ran alone, becomes a world: where what its threads left is not refused, a store
+//! that stands for a state of the machine and has the record of each receipt.
 #![tactic(auto)]
 
 mod adoption;

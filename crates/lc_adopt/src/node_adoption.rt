@@ -11,11 +11,11 @@ use lc_stage::CommitSeat;
 use std::alloc::Global;
 use std::sync::Wait;
 
-/// The store of one node that a node leaves which was opened alone, once its threads have ended: it is up, and has all records that
-/// were closed, those that are staged as well as those that are stable. `World::flush` makes the staged ones stable, and
-/// `World::into_areas` gives the areas back. Each record of which one of the committers' seats has a receipt stands in the log, or is
-/// of an earlier round and known clean. It waits for each lock, so who still has a log or a segment lets it wait for ever. This
-/// project's own.
+/// The store of one node that a node leaves which was opened alone, once its threads have ended: it is up, and has all
+/// records that were closed, those that are staged as well as those that are stable. `World::flush` makes the staged
+/// ones stable, and `World::into_areas` gives the areas back. Each record of which one of the committers' seats has a
+/// receipt stands in the log, or is of an earlier round and known clean. It waits for each lock, so who still has a log
+/// or a segment lets it wait for ever.
 ///
 /// # Errors
 ///

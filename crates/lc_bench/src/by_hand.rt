@@ -30,8 +30,8 @@ pub(crate) struct ByHand {
     segment: Segment,
 }
 
-// The bytes of a segment; the old ones under a transaction; its record; the records in their ring, and how many words of these
-// are not flushed; those that are; and the pages as they were last written.
+// The bytes of a segment; the old ones under a transaction; its record; the records in their ring, and how many words
+// of these are not flushed; those that are; and the pages as they were last written.
 #[derive(Drop)]
 struct Segment {
     bytes: Vec<u8>,

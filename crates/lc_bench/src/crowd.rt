@@ -59,8 +59,8 @@ struct Share {
     longest: Duration,
 }
 
-/// Prints of each case how many commits its threads made in 0.2 seconds, those of the thread that made least and most, how long the
-/// longest took, and how often the log was emptied beside how often the records fill it.
+/// Prints of each case how many commits its threads made in 0.2 seconds, those of the thread that made least and most,
+/// and how long the longest took. It prints too how often the log was emptied beside how often the records fill it.
 pub(crate) fn measure<R: AllocGlobal + Clock + Print + Threads + Wait + Sync>(
     rt: &R,
 ) -> io::Result<()> {

@@ -227,8 +227,8 @@ fn kind_of(event: &Event) -> &'static str {
     }
 }
 
-// All kinds of events in a row: a transaction on segment 1 becomes stable, the first record that the other nodes lack is
-// delivered to them, the token goes and comes back, and what the transaction changed is written.
+// All kinds of events in a row: a transaction on segment 1 becomes stable, the first record that the other nodes lack
+// is delivered to them, the token goes and comes back, and what the transaction changed is written.
 fn cycle(
     events: &mut Vec<Event>,
     alloc: Global,

@@ -9,8 +9,8 @@ pub(crate) const ROUNDS: u32 = 25;
 
 /// Work that is done anew in each round.
 pub(crate) trait Work<R> {
-    /// Makes ready for a round, and then times it. Its number depends on what was done, and is printed, so that no part of it
-    /// can be left out.
+    /// Makes ready for a round, and then times it. Its number depends on what was done, and is printed, so that no part
+    /// of it can be left out.
     fn round(&mut self, rt: &R) -> io::Result<Round>;
 }
 

@@ -1,5 +1,6 @@
-//! Measures the layers, each beside the plain work that a careful programmer would do by hand, in alternating rounds. Without
-//! a word it prints the names of its measurements; with one of them it measures, and prints both and their ratio.
+//! Measures the layers, each beside the plain work that a careful programmer would do by hand, in alternating rounds.
+//! Without a word it prints the names of its measurements; with one of them it measures, and prints both and their
+//! ratio.
 #![tactic(auto)]
 
 mod by_hand;

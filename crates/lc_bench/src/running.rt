@@ -37,10 +37,10 @@ struct Committer<'a, D: Area + Drop> {
     ghost idle: { IsIdle (commit_view seat) },
 }
 
-/// Measures lazy commits of 5 bytes on a node in memory, which so many threads make in equal shares, each on a segment of its
-/// own where there are as many. They are beside as many transactions by hand, of 8 bytes, which one thread does in its own
-/// memory. Where the log is not emptied within the time, it is before each round. A round takes from where the first thread
-/// begins to where the last ends.
+/// Measures lazy commits of 5 bytes on a node in memory, which so many threads make in equal shares, each on a segment
+/// of its own where there are as many. They are beside as many transactions by hand, of 8 bytes, which one thread does
+/// in its own memory. Where the log is not emptied within the time, it is before each round. A round takes from where
+/// the first thread begins to where the last ends.
 pub(crate) fn in_memory<R: AllocGlobal + Clock + Threads + Wait + Sync>(
     rt: &R,
     measurement: &'static Measurement,
@@ -60,10 +60,10 @@ fn in_memory_beside<R: AllocGlobal + Clock + Threads + Wait + Sync, P: Work<R>>(
     Ok(rounds)
 }
 
-/// Measures commits of 5 bytes that are each flushed before their thread goes on, on a node in files, which stand in this
-/// folder. The threads are as those in memory. They are beside plain writes and data syncs of one thread, as many as there
-/// would be if each flush had a record of every thread. How many records a flush had is printed, and how long a write and a
-/// sync take by hand.
+/// Measures commits of 5 bytes that are each flushed before their thread goes on, on a node in files, which stand in
+/// this folder. The threads are as those in memory. They are beside plain writes and data syncs of one thread, as many
+/// as there would be if each flush had a record of every thread. How many records a flush had is printed, and how long
+/// a write and a sync take by hand.
 pub(crate) fn in_files<R: AllocGlobal + Clock + Files + Print + Threads + Wait + Sync>(
     rt: &R,
     measurement: &Measurement,

@@ -5,7 +5,7 @@ ghost use Rattle.lc_c.specs.SuspendedTransactions.{IsPiece, is_of};
 use lc_range::Range;
 use std::alloc::{AllocError, Global};
 
-/// A range that a transaction had set, and the bytes that it held when the transaction was aborted. This project's own.
+/// A range that a transaction had set, and the bytes that it held when the transaction was aborted.
 #[derive(Drop)]
 pub(crate) struct AbortedRange {
     pub(crate) node: u16,

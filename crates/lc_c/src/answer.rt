@@ -12,8 +12,8 @@ pub(crate) const DONE: u32 = 0;
 /// The status where there is no memory.
 pub(crate) const NO_MEMORY: u32 = 64;
 
-/// What a store answers: a status, which is 0, the number of the refusal, or 64 where there is no memory; which reply it is;
-/// and what belongs to it. What does not is 0. This project's own.
+/// What a store answers: a status, which is 0, the number of the refusal, or 64 where there is no memory; which reply
+/// it is; and what belongs to it. What does not is 0.
 #[repr(C)]
 #[derive(Clone, Copy, Drop)]
 pub struct Answer {

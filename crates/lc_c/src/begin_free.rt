@@ -8,8 +8,8 @@ use crate::session_state::SessionState;
 use lc_core::{Refusal, Reply};
 
 impl Session {
-    /// The threads of a node are asked in their order to begin a transaction, until one is not refused for having one. It and
-    /// its answer are told; where all have one these are the last thread, and `OutOfTurn`. It takes no memory.
+    /// The threads of a node are asked in their order to begin a transaction, until one is not refused for having one.
+    /// It and its answer are told; where all have one these are the last thread, and `OutOfTurn`. It takes no memory.
     pub(crate) fn begin_free(&mut self, node: u16, writing: &[u32], reading: &[u32]) -> (u16, Reply)
         ensures begins { BeginsFree node writing.now reading.now self.old.stage result.0 result.1 self.new.stage }
         ensures beside { IsSameBeside self.old self.new }

@@ -1,14 +1,16 @@
 //! What C calls to empty a log, also beside open transactions.
 ghost use Rattle.std.specs.Prelude.{◌≡◌};
-ghost use Rattle.lc_c.specs.EmptyingCalls.{AsideIf, BackIf, ComesBack, IsAside, IsRestored, IsTruncated, RestoresIf, TruncatesIf, answer_to};
+ghost use Rattle.lc_c.specs.EmptyingCalls.{AsideIf, BackIf, ComesBack, IsAside, IsRestored, IsTruncated, RestoresIf};
+ghost use Rattle.lc_c.specs.EmptyingCalls.{TruncatesIf, answer_to};
 
 use crate::answer::Answer;
 use crate::handle::Handle;
 use lc_core::{CallFault, Refusal, Reply};
 use std::alloc::{AllocError, Global};
 
-/// The next device call of a truncation of a node's log, which empties it: of that which is under way there, or else of a new
-/// one. The reply is 3 where more is to come, and else the last: 11, 5 where the log was empty, or what was refused.
+/// The next device call of a truncation of a node's log, which empties it: of that which is under way there, or else of
+/// a new one. The reply is 3 where more is to come, and else the last: 11, 5 where the log was empty, or what was
+/// refused.
 #[unsafe(no_mangle)]
 pub extern "C" fn lcrvm_session_truncate_step(
     alloc: Global,

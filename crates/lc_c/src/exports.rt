@@ -1,8 +1,10 @@
 //! What C calls.
 ghost use Rattle.std.specs.Prelude.{◌≡◌, ◌⊎◌, [], true, false, Ok, Some, length};
 ghost use Rattle.lc_record.specs.Geometry.{HasNumbers, IsGeometry};
-ghost use Rattle.lc_model.specs.declared.event.Event.TheVariants.{Arrive, Begin, Close, Deliver, FlushStep, Leave, Read, RecoverStep, Reserve, SetRange, Trim, Write};
-ghost use Rattle.lc_c.specs.Calls.{AbortsBy, AbortsIf, AddsIf, BeginsBy, BeginsIf, Fills, IsBegun, StartsIf, Steps, StepsIf, TellsBytes, TellsCall};
+ghost use Rattle.lc_model.specs.declared.event.Event.TheVariants.{Arrive, Begin, Close, Deliver, FlushStep, Leave};
+ghost use Rattle.lc_model.specs.declared.event.Event.TheVariants.{Read, RecoverStep, Reserve, SetRange, Trim, Write};
+ghost use Rattle.lc_c.specs.Calls.{AbortsBy, AbortsIf, AddsIf, BeginsBy, BeginsIf, Fills, IsBegun, StartsIf, Steps};
+ghost use Rattle.lc_c.specs.Calls.{StepsIf, TellsBytes, TellsCall};
 ghost use Rattle.lc_c.specs.SessionState.{is_step};
 ghost use Rattle.lc_c.specs.declared.session_state.SessionState.TheVariants.{Over};
 
@@ -14,8 +16,8 @@ use lc_core::{CallFault, Event, Refusal, Reply};
 use lc_record::Geometry;
 use std::alloc::{AllocError, Global};
 
-/// A session for a store of this geometry, in a handle that holds none: 0. Else nothing has changed, and it is 4 where the
-/// handle holds a session, 2 where a number is outside of its range, and 64 where there is no memory.
+/// A session for a store of this geometry, in a handle that holds none: 0. Else nothing has changed, and it is 4 where
+/// the handle holds a session, 2 where a number is outside of its range, and 64 where there is no memory.
 #[unsafe(no_mangle)]
 pub extern "C" fn lcrvm_session_new(
     alloc: Global,
@@ -27,9 +29,11 @@ pub extern "C" fn lcrvm_session_new(
     handle: &mut Handle,
 ) -> u32
     ensures in_turn { handle.old.held ≡ true → (result ≡ 4) × (handle.new ≡ handle.old) }
-    ensures outside { handle.old.held ≡ false → (IsGeometry nodes threads segments pages words → ⊥) → (result ≡ 2) × (handle.new ≡ handle.old) }
+    ensures outside { handle.old.held ≡ false → (IsGeometry nodes threads segments pages words → ⊥)
+        → (result ≡ 2) × (handle.new ≡ handle.old) }
     ensures begun { handle.old.held ≡ false → IsGeometry nodes threads segments pages words
-        → ((result ≡ 0) × IsBegun nodes threads segments pages words handle.new) ⊎ ((result ≡ 64) × (handle.new ≡ handle.old)) }
+        → ((result ≡ 0) × IsBegun nodes threads segments pages words handle.new)
+        ⊎ ((result ≡ 64) × (handle.new ≡ handle.old)) }
 {
     if handle.is_held() {
         return Refusal::OutOfTurn.code() as u32;
@@ -50,7 +54,8 @@ pub extern "C" fn lcrvm_session_new(
 /// the segments. After any answer but 0 nothing has changed.
 #[unsafe(no_mangle)]
 pub extern "C" fn lcrvm_session_area(alloc: Global, handle: &mut Handle, bytes: &[u8]) -> u32
-    ensures { AddsIf handle.old.held handle.old.value bytes.now result handle.new.value × (handle.new.held ≡ handle.old.held) }
+    ensures { AddsIf handle.old.held handle.old.value bytes.now result handle.new.value
+        × (handle.new.held ≡ handle.old.held) }
 {
     if !handle.is_held() {
         return Refusal::Down.code() as u32;
@@ -103,8 +108,8 @@ pub extern "C" fn lcrvm_session_begin(
     answer.status
 }
 
-/// The lowest thread of a node that has no transaction begins one, and is told; where all have one it is the last, and the
-/// answer is 4.
+/// The lowest thread of a node that has no transaction begins one, and is told; where all have one it is the last, and
+/// the answer is 4.
 #[unsafe(no_mangle)]
 pub extern "C" fn lcrvm_session_begin_free(
     handle: &mut Handle,
@@ -178,7 +183,8 @@ pub extern "C" fn lcrvm_session_read(
     buffer: &mut [u8],
     answer: &mut Answer,
 ) -> u32
-    ensures fills { Fills handle.old (Read node thread segment offset (length buffer.old)) buffer.old buffer.new answer.new handle.new }
+    ensures fills { Fills handle.old (Read node thread segment offset (length buffer.old)) buffer.old buffer.new
+        answer.new handle.new }
     ensures status { result ≡ answer.new.status }
 {
     *answer = read(handle, node, thread, segment, offset, buffer);
@@ -334,7 +340,8 @@ pub extern "C" fn lcrvm_session_last_call(
     }
 }
 
-/// Fills the buffer with the bytes of the area at this place from a position on, where it has so many; else it is as before.
+/// Fills the buffer with the bytes of the area at this place from a position on, where it has so many; else it is as
+/// before.
 #[unsafe(no_mangle)]
 pub extern "C" fn lcrvm_session_bytes(
     handle: &mut Handle,
@@ -399,7 +406,8 @@ fn stepped(alloc: Global, handle: &mut Handle, event: &Event) -> Result<Reply, A
 }
 
 fn begun(handle: &mut Handle, node: u16, thread: u16, writing: &[u32], reading: &[u32]) -> Reply
-    ensures steps { StepsIf handle.old.held handle.old.value (Begin node thread writing.now reading.now) (Ok result) handle.new.value }
+    ensures steps { StepsIf handle.old.held handle.old.value (Begin node thread writing.now reading.now)
+        (Ok result) handle.new.value }
     ensures held { handle.new.held ≡ handle.old.held }
 {
     if !handle.is_held() {
@@ -409,7 +417,8 @@ fn begun(handle: &mut Handle, node: u16, thread: u16, writing: &[u32], reading: 
 }
 
 fn begun_free(handle: &mut Handle, node: u16, writing: &[u32], reading: &[u32]) -> (u16, Reply)
-    ensures begins { BeginsIf handle.old.held node writing.now reading.now handle.old.value result.0 result.1 handle.new.value }
+    ensures begins { BeginsIf handle.old.held node writing.now reading.now handle.old.value result.0 result.1
+        handle.new.value }
     ensures held { handle.new.held ≡ handle.old.held }
 {
     if !handle.is_held() {
@@ -436,7 +445,8 @@ fn written(
     offset: u32,
     bytes: &[u8],
 ) -> Reply
-    ensures steps { StepsIf handle.old.held handle.old.value (Write node thread segment offset bytes.now) (Ok result) handle.new.value }
+    ensures steps { StepsIf handle.old.held handle.old.value (Write node thread segment offset bytes.now)
+        (Ok result) handle.new.value }
     ensures held { handle.new.held ≡ handle.old.held }
 {
     if !handle.is_held() {
@@ -453,7 +463,8 @@ fn read(
     offset: u32,
     buffer: &mut [u8],
 ) -> Answer
-    ensures { Fills handle.old (Read node thread segment offset (length buffer.old)) buffer.old buffer.new result handle.new }
+    ensures { Fills handle.old (Read node thread segment offset (length buffer.old)) buffer.old buffer.new result
+        handle.new }
 {
     if !handle.is_held() {
         return Answer::of_refusal(Refusal::Down);

@@ -1,6 +1,7 @@
 //! What the open transactions of a node hold.
 ghost use Rattle.std.specs.Prelude.{IfOk, IfErr};
-ghost use Rattle.lc_c.specs.SuspendedTransactions.{AddsTo, AreAside, AreHeld, AreKept, AreLocks, AreLocksOf, HoldEach, Holds, RefusesRead, ranges_in};
+ghost use Rattle.lc_c.specs.SuspendedTransactions.{AddsTo, AreAside, AreHeld, AreKept, AreLocks, AreLocksOf, HoldEach};
+ghost use Rattle.lc_c.specs.SuspendedTransactions.{Holds, RefusesRead, ranges_in};
 ghost use Rattle.lc_core.specs.OpenTransactions.{open_transaction};
 ghost use Rattle.lc_c.specs.contracts.mirror_area.MirrorAreaArea.TheImpl.{ghosts};
 
@@ -13,8 +14,8 @@ use lc_range::Range;
 use lc_tx::Tx;
 use std::alloc::{AllocError, Global};
 
-/// The locks of the transactions of a node that are open and have set a range, and what these ranges hold. It takes memory
-/// for these.
+/// The locks of the transactions of a node that are open and have set a range, and what these ranges hold. It takes
+/// memory for these.
 ///
 /// # Errors
 ///
@@ -52,7 +53,8 @@ fn add_aside(
     thread: u16,
     asides: &mut Vec<Aside>,
 ) -> Result<(), AllocError>
-    ensures { IfOk result (λ _. AddsTo (AreLocks node thread (open_transaction ghosts world.now.phase node thread)) asides.old.items asides.new.items) }
+    ensures { IfOk result (λ _. AddsTo (AreLocks node thread (open_transaction ghosts world.now.phase node thread))
+        asides.old.items asides.new.items) }
 {
     match world.open_transaction(node, thread) {
         Some(tx) => add_locks(alloc, node, thread, tx, asides),
@@ -100,7 +102,9 @@ fn add_pieces(
     thread: u16,
     pieces: &mut Vec<AbortedRange>,
 ) -> Result<(), CallFault>
-    ensures kept { IfOk result (λ _. AddsTo (HoldEach world.now node thread (ranges_in (open_transaction ghosts world.now.phase node thread))) pieces.old.items pieces.new.items) }
+    ensures kept { IfOk result (λ _. AddsTo
+        (HoldEach world.now node thread (ranges_in (open_transaction ghosts world.now.phase node thread)))
+        pieces.old.items pieces.new.items) }
     ensures refused { IfErr result (RefusesRead world.now node) }
 {
     match world.open_transaction(node, thread) {
@@ -118,7 +122,8 @@ fn keep_ranges(
     ranges: &[Range],
     pieces: &mut Vec<AbortedRange>,
 ) -> Result<(), CallFault>
-    ensures kept { IfOk result (λ _. AddsTo (HoldEach world.now node thread ranges.now) pieces.old.items pieces.new.items) }
+    ensures kept { IfOk result (λ _. AddsTo
+        (HoldEach world.now node thread ranges.now) pieces.old.items pieces.new.items) }
     ensures refused { IfErr result (RefusesRead world.now node) }
 {
     for range in ranges {

@@ -6,7 +6,7 @@ use crate::area_call::AreaCall;
 use crate::mirror_area::MirrorArea;
 
 /// The last call of an area: none 0, a write 1, of `len` bytes from `at` on, or a sync 2; and how many calls there
-/// were, from 0 again after 2^64 - 1. What does not belong to it is 0. This project's own.
+/// were, from 0 again after 2^64 - 1. What does not belong to it is 0.
 #[repr(C)]
 #[derive(Clone, Copy, Drop)]
 pub struct LastCall {

@@ -1,5 +1,5 @@
-//! A store in a C program's own process: its areas stand in memory, and C makes on each file the call that was made on the
-//! area.
+//! A store in a C program's own process: its areas stand in memory, and C makes on each file the call that was made on
+//! the area.
 #![tactic(auto)]
 
 mod aborted_range;

@@ -1,5 +1,6 @@
 //! An area in memory that a file mirrors.
-ghost use Rattle.std.specs.Prelude.{◌≡◌, ◌+◌, ◌≤◌, ◌<◌, ◌^◌, ◌%◌, ℕ, None, Some, true, false, length, slice_index_or, option_copied, take, drop, Ok, IfOk, OnErr};
+ghost use Rattle.std.specs.Prelude.{◌≡◌, ◌+◌, ◌≤◌, ◌<◌, ◌^◌, ◌%◌, ℕ, None, Some, true, false, length, slice_index_or};
+ghost use Rattle.std.specs.Prelude.{option_copied, take, drop, Ok, IfOk, OnErr};
 ghost use Rattle.std.proofs.Common.{rules};
 ghost use Rattle.lc_disk.specs.Area.{IsImage, IsSameOutside, BecomeDirty, overlaid};
 ghost use Rattle.lc_disk.specs.MemArea.{memory_calls, memory_dirty, memory_now, memory_stable, KeepsMemory};
@@ -14,7 +15,7 @@ use std::snapshot::Snapshot;
 
 /// An area in memory, which never fails, and keeps the last call that changed it or made it stable: who makes each of
 /// these on a file has a file that holds what the area holds. How many calls there were is counted, from 0 again after
-/// 2^64 - 1. `of_file` alone takes memory. This project's own.
+/// 2^64 - 1. `of_file` alone takes memory.
 #[derive(Drop)]
 pub(crate) struct MirrorArea {
     area: MemArea,
@@ -28,7 +29,8 @@ pub(crate) struct MirrorArea {
 }
 
 impl MirrorArea {
-    ghost use Rattle.lc_c.specs.Mirrors.{called, mirror_area, mirror_before, mirror_calls, mirror_last, window_of, IsOfFile};
+    ghost use Rattle.lc_c.specs.Mirrors.{called, mirror_area, mirror_before, mirror_calls, mirror_last, window_of};
+    ghost use Rattle.lc_c.specs.Mirrors.{IsOfFile};
 
     /// What a file holds, of which no byte is known to be stable. Nothing was called yet.
     pub(crate) fn of_file(alloc: Global, bytes: &[u8]) -> Result<MirrorArea, AllocError>
@@ -64,11 +66,12 @@ impl MirrorArea {
         Some(&bytes[at..at + len])
     }
 
-    /// The last call, if there was one. A file that held what the area held before it, and of which it is made, holds what the area
-    /// holds.
+    /// The last call, if there was one. A file that held what the area held before it, and of which it is made, holds
+    /// what the area holds.
     pub(crate) fn last(&self) -> Option<AreaCall>
         ensures last { result ≡ mirror_last self.now }
-        ensures mirrors { called result (memory_now (mirror_before self.now)) (memory_now (mirror_area self.now)) ≡ memory_now (mirror_area self.now) }
+        ensures mirrors { called result (memory_now (mirror_before self.now)) (memory_now (mirror_area self.now))
+            ≡ memory_now (mirror_area self.now) }
     {
         self.last
     }
@@ -119,9 +122,12 @@ impl Area for MirrorArea {
     fn write_at(&mut self, at: usize, bytes: &[u8]) -> Result<(), DeviceFault>
         requires { at + length bytes.now ≤ length (memory_now (mirror_area self.old)) }
         ensures done { result ≡ Ok tt }
-        ensures written { memory_now (mirror_area self.new) ≡ overlaid (memory_now (mirror_area self.old)) at bytes.now }
-        ensures torn { IsSameOutside at (length bytes.now) (memory_now (mirror_area self.old)) (memory_now (mirror_area self.new)) }
-        ensures dirtied { BecomeDirty at (length bytes.now) (memory_dirty (mirror_area self.old)) (memory_dirty (mirror_area self.new)) }
+        ensures written { memory_now (mirror_area self.new)
+            ≡ overlaid (memory_now (mirror_area self.old)) at bytes.now }
+        ensures torn { IsSameOutside at (length bytes.now) (memory_now (mirror_area self.old))
+            (memory_now (mirror_area self.new)) }
+        ensures dirtied { BecomeDirty at (length bytes.now) (memory_dirty (mirror_area self.old))
+            (memory_dirty (mirror_area self.new)) }
         ensures last { mirror_last self.new ≡ Some (Write at (length bytes.now)) }
         ensures before { mirror_before self.new ≡ mirror_area self.old }
         ensures calls { mirror_calls self.new ≡ (mirror_calls self.old + 1) % 2 ^ 64 }
@@ -164,14 +170,17 @@ impl Area for MirrorArea {
 impl Stoppable for MirrorArea {
     ghost use Rattle.lc_c.specs.Mirrors.{mirror_area, mirror_last};
 
-    ghost left = { λ m choices k. left_by_stop (memory_now m.area) (memory_stable m.area) (memory_dirty m.area) choices k };
+    ghost left = { λ m choices k. left_by_stop (memory_now m.area) (memory_stable m.area)
+        (memory_dirty m.area) choices k };
 
     /// As of an area in memory. It is no call.
     fn stop(&mut self, choices: &[Choice])
         ensures len { length (memory_now (mirror_area self.new)) ≡ length (memory_now (mirror_area self.old)) }
         ensures chosen { (k : ℕ) → slice_index_or (memory_now (mirror_area self.new)) k 0
-            ≡ left_by_stop (memory_now (mirror_area self.old)) (memory_stable (mirror_area self.old)) (memory_dirty (mirror_area self.old)) choices.now k }
-        ensures image { IsImage (memory_now (mirror_area self.old)) (memory_dirty (mirror_area self.old)) (memory_now (mirror_area self.new)) }
+            ≡ left_by_stop (memory_now (mirror_area self.old)) (memory_stable (mirror_area self.old))
+            (memory_dirty (mirror_area self.old)) choices.now k }
+        ensures image { IsImage (memory_now (mirror_area self.old)) (memory_dirty (mirror_area self.old))
+            (memory_now (mirror_area self.new)) }
         ensures clean { (k : ℕ) → memory_dirty (mirror_area self.new) k ≡ false }
         ensures last { mirror_last self.new ≡ None }
         ensures called { memory_calls (mirror_area self.new) ≡ memory_calls (mirror_area self.old) }

@@ -9,8 +9,8 @@ use lc_core::{CallFault, World};
 use std::alloc::Global;
 
 impl Session {
-    /// Sets each range of a thread's transaction again that is kept, and writes what it held, one after another. It takes
-    /// memory as `World::set_range` does.
+    /// Sets each range of a thread's transaction again that is kept, and writes what it held, one after another. It
+    /// takes memory as `World::set_range` does.
     ///
     /// # Errors
     ///

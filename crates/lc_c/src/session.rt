@@ -1,5 +1,6 @@
 //! A store that is brought up from what files hold, and takes steps.
-ghost use Rattle.std.specs.Prelude.{◌≡◌, [], true, false, Option, None, Some, IfErr, IfOk, OnErr, Ok, Err, length, option_copied};
+ghost use Rattle.std.specs.Prelude.{◌≡◌, [], true, false, Option, None, Some, IfErr, IfOk, OnErr, Ok, Err, length};
+ghost use Rattle.std.specs.Prelude.{option_copied};
 ghost use Rattle.lc_model.specs.declared.event.Event.TheVariants.{Begin, Read, Write};
 ghost use Rattle.lc_model.specs.declared.reply.Reply.TheVariants.{Bytes, Refused};
 ghost use Rattle.lc_core.specs.declared.call_fault.CallFault.TheVariants.{NoMemory, Refused as IsRefused};
@@ -10,7 +11,8 @@ ghost use Rattle.lc_c.specs.Mirrors.{window_in};
 ghost use Rattle.lc_c.specs.declared.mirror_area.MirrorArea.{MirrorArea as Mirror};
 ghost use Rattle.lc_c.specs.SuspendedTransactions.{IsNone};
 ghost use Rattle.lc_c.specs.Beside.{IsSameBeside};
-ghost use Rattle.lc_c.specs.SessionState.{AreaAt, IsAdded, StartsStage, StepsStage, gathered, geometry_of, is_gathering, is_step};
+ghost use Rattle.lc_c.specs.SessionState.{AreaAt, IsAdded, StartsStage, StepsStage, gathered, geometry_of};
+ghost use Rattle.lc_c.specs.SessionState.{is_gathering, is_step};
 
 use crate::mirror_area::MirrorArea;
 use crate::session_state::SessionState;
@@ -21,8 +23,8 @@ use lc_recover::RecoverFault;
 use std::alloc::{AllocError, Global};
 use std::mem;
 
-/// A store in a process of C. Its areas are added first, each with what its file holds; then it starts, and takes steps. This
-/// project's own.
+/// A store in a process of C. Its areas are added first, each with what its file holds; then it starts, and takes
+/// steps.
 #[derive(Drop)]
 pub struct Session {
     pub(crate) stage: SessionState,
@@ -60,7 +62,8 @@ impl Session {
         ensures gathering { is_gathering self.new.stage ≡ is_gathering self.old.stage }
         ensures geometry { geometry_of self.new.stage ≡ geometry_of self.old.stage }
         ensures none { OnErr result (gathered self.new.stage ≡ gathered self.old.stage) }
-        ensures closed { is_gathering self.old.stage ≡ false → (result ≡ Err (IsRefused OutOfTurn)) × (self.new ≡ self.old) }
+        ensures closed { is_gathering self.old.stage ≡ false
+            → (result ≡ Err (IsRefused OutOfTurn)) × (self.new ≡ self.old) }
         ensures refused { IfErr result (λ fault. is_gathering self.old.stage ≡ true → fault ≡ NoMemory) }
         ensures beside { IsSameBeside self.old self.new }
     {
@@ -76,8 +79,8 @@ impl Session {
     ///
     /// # Errors
     ///
-    /// `OutOfTurn` where it has started: nothing has changed then. `BadGeometry` with the least index of an area that has not
-    /// the length of the geometry, is missing, or is too many: the session is over.
+    /// `OutOfTurn` where it has started: nothing has changed then. `BadGeometry` with the least index of an area that
+    /// has not the length of the geometry, is missing, or is too many: the session is over.
     pub(crate) fn start(&mut self) -> Result<(), Refusal>
         ensures starts { StartsStage self.old.stage result self.new.stage }
         ensures beside { IsSameBeside self.old self.new }
@@ -123,7 +126,8 @@ impl Session {
         writing: &[u32],
         reading: &[u32],
     ) -> Reply
-        ensures steps { StepsStage self.old.stage (Begin node thread writing.now reading.now) (Ok result) self.new.stage }
+        ensures steps { StepsStage self.old.stage (Begin node thread writing.now reading.now)
+            (Ok result) self.new.stage }
         ensures beside { IsSameBeside self.old self.new }
     {
         match &mut self.stage {
@@ -141,7 +145,8 @@ impl Session {
         offset: u32,
         bytes: &[u8],
     ) -> Reply
-        ensures steps { StepsStage self.old.stage (Write node thread segment offset bytes.now) (Ok result) self.new.stage }
+        ensures steps { StepsStage self.old.stage (Write node thread segment offset bytes.now)
+            (Ok result) self.new.stage }
         ensures beside { IsSameBeside self.old self.new }
     {
         match &mut self.stage {
@@ -150,7 +155,8 @@ impl Session {
         }
     }
 
-    /// Fills the buffer with bytes that the open transaction of a thread locked. It takes no memory, and changes nothing.
+    /// Fills the buffer with bytes that the open transaction of a thread locked. It takes no memory, and changes
+    /// nothing.
     ///
     /// # Errors
     ///
@@ -163,8 +169,12 @@ impl Session {
         offset: u32,
         buffer: &mut [u8],
     ) -> Result<(), Refusal>
-        ensures bytes { IfOk result (λ _. StepsStage self.now.stage (Read node thread segment offset (length buffer.old)) (Ok (Bytes buffer.new)) self.now.stage) }
-        ensures refused { IfErr result (λ refusal. StepsStage self.now.stage (Read node thread segment offset (length buffer.old)) (Ok (Refused refusal)) self.now.stage) }
+        ensures bytes { IfOk result (λ _.
+            StepsStage self.now.stage (Read node thread segment offset (length buffer.old))
+            (Ok (Bytes buffer.new)) self.now.stage) }
+        ensures refused { IfErr result (λ refusal.
+            StepsStage self.now.stage (Read node thread segment offset (length buffer.old))
+            (Ok (Refused refusal)) self.now.stage) }
         ensures kept { IfErr result (λ _. buffer.new ≡ buffer.old) }
     {
         match &self.stage {
@@ -186,7 +196,8 @@ impl Session {
 
     /// So many bytes of that area from a position on, where it has them.
     pub(crate) fn window(&self, place: usize, at: usize, len: usize) -> Option<&[u8]>
-        ensures { (area : Option Mirror) × AreaAt self.now.stage place area × (option_copied result ≡ window_in area at len) }
+        ensures { (area : Option Mirror) × AreaAt self.now.stage place area
+            × (option_copied result ≡ window_in area at len) }
     {
         self.area(place)?.window(at, len)
     }

@@ -10,8 +10,8 @@ use lc_core::{CallFault, Refusal, World};
 use std::alloc::Global;
 
 impl Session {
-    /// Aborts each transaction of a node that is open and has set a range, and keeps its locks and what its ranges hold. It
-    /// takes memory for these.
+    /// Aborts each transaction of a node that is open and has set a range, and keeps its locks and what its ranges
+    /// hold. It takes memory for these.
     ///
     /// # Errors
     ///
@@ -31,7 +31,8 @@ impl Session {
         }
     }
 
-    /// Begins each transaction again that was set aside, with the same locks, in the order of threads. It takes no memory.
+    /// Begins each transaction again that was set aside, with the same locks, in the order of threads. It takes no
+    /// memory.
     ///
     /// # Errors
     ///

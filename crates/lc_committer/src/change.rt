@@ -1,7 +1,7 @@
 //! What changes bytes in place.
 ghost use Rattle.std.specs.Prelude.{ℕ, List};
 
-/// Changes the bytes of a range in place. This project's own.
+/// Changes the bytes of a range in place.
 pub trait Change {
     /// What a call makes of the change itself and of the bytes.
     ghost changes: { Self → List ℕ → Self → List ℕ → Type 0 };

@@ -9,8 +9,8 @@ use lc_node::Node;
 use lc_stage::CommitSeat;
 use std::marker::Model;
 
-/// What a thread commits with: a running node and a seat on it, which has no open reservation. The seat goes out only within a
-/// call. This project's own.
+/// What a thread commits with: a running node and a seat on it, which has no open reservation. The seat goes out only
+/// within a call.
 #[derive(Drop)]
 pub struct Committer<'a, D: Area + Drop> {
     pub(crate) node: &'a Node<D>,

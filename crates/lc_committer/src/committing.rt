@@ -17,10 +17,11 @@ use std::sync::Wait;
 const TRIES: u32 = 10_000;
 
 impl<'a, D: Area + Drop> Committer<'a, D> {
-    /// Runs the work in a transaction on these segments, whose locks it waits for in ascending order, and closes a record of
-    /// what it set; with `Mode::Flush` it then waits until the record is stable. All memory is taken before a place is reserved.
-    /// Where the log has no room for the record, room is made, as `Node::transact_in_room` says: a commit that meets a full log
-    /// empties it and goes before all others. It is that call, with 10,000 tries for a place.
+    /// Runs the work in a transaction on these segments, whose locks it waits for in ascending order, and closes a
+    /// record of what it set; with `Mode::Flush` it then waits until the record is stable. All memory is taken before a
+    /// place is reserved. Where the log has no room for the record, room is made, as `Node::transact_in_room` says: a
+    /// commit that meets a full log empties it and goes before all others. It is that call, with 10,000 tries for a
+    /// place.
     ///
     /// # Errors
     ///
@@ -35,7 +36,8 @@ impl<'a, D: Area + Drop> Committer<'a, D> {
         mode: Mode,
     ) -> Result<Commit, NodeFault>
         ensures node { self.new.node ≡ self.old.node }
-        ensures transacts { TransactsInRoom D.Area self.old.node W.ran TRIES segments.now mode work.old work.new self.old.view self.new.view result }
+        ensures transacts { TransactsInRoom D.Area self.old.node W.ran TRIES segments.now mode work.old work.new
+            self.old.view self.new.view result }
         ensures received { (receipt : Given) → result ≡ Ok (Flushed receipt) → HasReceipt self.new.view receipt }
         ensures keeps { KeepsReceipts self.old.view self.new.view }
     {

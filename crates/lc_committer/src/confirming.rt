@@ -11,8 +11,8 @@ use lc_stage::Receipt;
 use std::sync::Wait;
 
 impl<'a, D: Area + Drop> Committer<'a, D> {
-    /// Where the record of a receipt is that it has: among the stable ones of the log, or of an earlier round. It waits for the
-    /// lock of the log, and takes no memory.
+    /// Where the record of a receipt is that it has: among the stable ones of the log, or of an earlier round. It waits
+    /// for the lock of the log, and takes no memory.
     pub fn confirm<R: Wait>(&mut self, rt: &R, receipt: Receipt) -> Confirmed
         requires received { HasReceipt self.old.view receipt }
         ensures same { self.new ≡ self.old }

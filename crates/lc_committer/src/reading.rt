@@ -14,10 +14,10 @@ use std::alloc::AllocError;
 use std::sync::Wait;
 
 impl<'a, D: Area + Drop> Committer<'a, D> {
-    /// Copies the words of the record of a receipt that it has into this list, in place of what stands there: `Here` names its
-    /// index, and the words are those that were committed. Where a reset has taken the record away, `Earlier` names the round
-    /// of the log, and the list is as before. It waits for the lock of the log, and takes memory before, where the list has room
-    /// for fewer words.
+    /// Copies the words of the record of a receipt that it has into this list, in place of what stands there: `Here`
+    /// names its index, and the words are those that were committed. Where a reset has taken the record away, `Earlier`
+    /// names the round of the log, and the list is as before. It waits for the lock of the log, and takes memory
+    /// before, where the list has room for fewer words.
     ///
     /// # Errors
     ///
@@ -30,8 +30,10 @@ impl<'a, D: Area + Drop> Committer<'a, D> {
     ) -> Result<Confirmed, NodeFault>
         requires received { HasReceipt self.old.view receipt }
         ensures same { self.new ≡ self.old }
-        ensures reads { IfOk result (λ found. ReadsIn self.old.node self.old.view receipt words.old.items found words.new.items) }
-        ensures refused { IfErr result (λ fault. (fault ≡ NoMemory) × (words.new.items ≡ words.old.items) × (vec_capacity words.old < receipt.words)) }
+        ensures reads { IfOk result (λ found.
+            ReadsIn self.old.node self.old.view receipt words.old.items found words.new.items) }
+        ensures refused { IfErr result (λ fault. (fault ≡ NoMemory) × (words.new.items ≡ words.old.items)
+            × (vec_capacity words.old < receipt.words)) }
     {
         let Ok(()) = make_room(words, receipt.words() as usize) else {
             return Err(NodeFault::NoMemory);
@@ -59,10 +61,12 @@ fn make_room(words: &mut Vec<u64>, count: usize) -> Result<(), AllocError>
     words.reserve(count.saturating_sub(words.len()))
 }
 
-// Copies the stable record that stands at the receipt's place, in place of what stands in the list, which has room for it.
+// Copies the stable record that stands at the receipt's place, in place of what stands in the list, which has room for
+// it.
 fn copy_record<D: Area + Drop>(log: &LogSide<D>, receipt: Receipt, words: &mut Vec<u64>)
     requires room { receipt.words ≤ vec_capacity words.old }
-    ensures { (index : ℕ) (record_words : List ℕ) → IsAmong log.now.stable index receipt.place record_words → receipt.words ≡ length record_words → words.new.items ≡ record_words }
+    ensures { (index : ℕ) (record_words : List ℕ) → IsAmong log.now.stable index receipt.place record_words
+        → receipt.words ≡ length record_words → words.new.items ≡ record_words }
 {
     words.clear();
     if let Some(found) = log.stable_at(receipt.place() as usize) {

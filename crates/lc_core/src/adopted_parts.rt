@@ -18,11 +18,14 @@ ghost use Rattle.lc_core.specs.declared.world.World.{World as Store};
 
 use lc_disk::Area;
 
-/// A store that is built of the parts of a cluster at rest, which agree, fits a state of the machine with nothing open that has
-/// what was handed over.
+/// A store that is built of the parts of a cluster at rest, which agree, fits a state of the machine with nothing open
+/// that has what was handed over.
 pub(crate) fn adopted_parts<D: Area>()
-    ensures { (parts : Parts D D.Area) (h : Read) (segments : SegmentPieces) (tokens : List (Option TheToken)) (pieces : List (NodePiece D D.Area)) (areas : List D)
-        (up : UpStore D D.Area) (world : Store D D.Area) → AreKept D.Area parts → IsReadOf D.Area parts h → PassesAll D.Area parts h →
-        (AreHonest D.Area parts → AreReadAreas D.Area parts h) → IsBuiltOf D.Area parts h segments tokens pieces areas →
-        ((f : Found) → AreFound D.Area f segments tokens pieces areas → IsAdoptedUp D.Area f up) → world.phase ≡ Up up → IsAdoption D.Area parts world }
+    ensures { (parts : Parts D D.Area) (h : Read) (segments : SegmentPieces) (tokens : List (Option TheToken))
+        (pieces : List (NodePiece D D.Area)) (areas : List D)
+        (up : UpStore D D.Area) (world : Store D D.Area) → AreKept D.Area parts → IsReadOf D.Area parts h
+        → PassesAll D.Area parts h →
+        (AreHonest D.Area parts → AreReadAreas D.Area parts h) → IsBuiltOf D.Area parts h segments tokens pieces areas
+        → ((f : Found) → AreFound D.Area f segments tokens pieces areas → IsAdoptedUp D.Area f up) → world.phase ≡ Up up
+        → IsAdoption D.Area parts world }
 {}

@@ -4,7 +4,9 @@ ghost use Rattle.std.specs.Option.{ForSome};
 ghost use Rattle.lc_record.specs.declared.geometry.Geometry.{Geometry as Shape};
 ghost use Rattle.lc_tx.specs.declared.holders.Holders.TheVariants.{Free};
 ghost use Rattle.lc_core.specs.Blank.{AreBlankNodes, AreOfSegments, IsBlankDesk, IsOfSegment};
-ghost use Rattle.lc_core.specs.Pieces.{AreLeftAt, AreLeftBy, AreMadeNodes, AreMadeSlots, AreNodePieces, AreTokens, IsMadeJournal, IsMadeNode, IsMadeSlot, IsNodePiece, IsTokenOf, is_here, left_at, standing_at};
+ghost use Rattle.lc_core.specs.Pieces.{AreLeftAt, AreLeftBy, AreMadeNodes, AreMadeSlots, AreNodePieces, AreTokens};
+ghost use Rattle.lc_core.specs.Pieces.{IsMadeJournal, IsMadeNode, IsMadeSlot, IsNodePiece, IsTokenOf, is_here, left_at};
+ghost use Rattle.lc_core.specs.Pieces.{standing_at};
 
 use crate::desk::Desk;
 use crate::journal::Journal;
@@ -43,8 +45,8 @@ fn take_here(token: &mut Option<Token>, node: u16, holder: Holder) -> Option<Tok
 }
 
 impl SegmentCopy {
-    /// The slot of a segment, from 1, gets the token where it is to stand at this node, and the bytes and the number that the
-    /// segment has here. It takes no memory.
+    /// The slot of a segment, from 1, gets the token where it is to stand at this node, and the bytes and the number
+    /// that the segment has here. It takes no memory.
     pub(crate) fn adopt(
         &mut self,
         alloc: Global,
@@ -59,7 +61,8 @@ impl SegmentCopy {
         requires token { ForSome token.old (λ its. its.segment ≡ segment) }
         ensures made { IsMadeSlot segment piece.now (standing_at node piece.now.holder token.old) self.new }
         ensures left { token.new ≡ left_at node piece.now.holder token.old }
-        ensures shape { (g : Shape) → IsOfSegment g segment self.old → ForSome token.old (IsTokenOf g segment) → IsOfSegment g segment self.new }
+        ensures shape { (g : Shape) → IsOfSegment g segment self.old → ForSome token.old (IsTokenOf g segment)
+            → IsOfSegment g segment self.new }
     {
         let standing = take_here(token, node, piece.holder);
         let applied = piece.number(&standing);
@@ -92,8 +95,8 @@ fn adopt_slots(
 }
 
 impl Desk {
-    /// The slots of a desk, where no thread does anything, get what their segments are made of, and the tokens that are at this
-    /// node. It takes no memory.
+    /// The slots of a desk, where no thread does anything, get what their segments are made of, and the tokens that are
+    /// at this node. It takes no memory.
     pub(crate) fn adopt(
         &mut self,
         alloc: Global,
@@ -119,8 +122,8 @@ impl Desk {
 }
 
 impl<D: Area + Drop> Journal<D> {
-    /// The log and the records are those of a node's piece: the journal begins at what is dropped, and what is stable was taken
-    /// and is acknowledged. What the piece knows as clean is handed back. It takes no memory.
+    /// The log and the records are those of a node's piece: the journal begins at what is dropped, and what is stable
+    /// was taken and is acknowledged. What the piece knows as clean is handed back. It takes no memory.
     pub(crate) fn adopt(&mut self, piece: NodePiece<D>) -> KnownClean
         requires piece { IsNodePiece D.Area self.old.words piece }
         ensures made { IsMadeJournal D.Area piece self.new }
@@ -147,8 +150,8 @@ impl<D: Area + Drop> Journal<D> {
 }
 
 impl<D: Area + Drop> NodeState<D> {
-    /// A node, of which no thread does anything, gets its log and its records, and of each segment what it has here. It takes no
-    /// memory.
+    /// A node, of which no thread does anything, gets its log and its records, and of each segment what it has here. It
+    /// takes no memory.
     pub(crate) fn adopt(
         &mut self,
         alloc: Global,
@@ -162,7 +165,8 @@ impl<D: Area + Drop> NodeState<D> {
         requires piece { IsNodePiece D.Area segments.now.geometry.words piece }
         requires all_tokens { length tokens.old ≡ segments.now.geometry.segments }
         requires tokens { AreTokens segments.now.geometry tokens.old }
-        ensures made { IsMadeNode D.Area segments.now.geometry number segments.now.pieces.items tokens.old piece self.new }
+        ensures made { IsMadeNode D.Area segments.now.geometry number segments.now.pieces.items tokens.old piece
+            self.new }
         ensures left { AreLeftAt number segments.now.pieces.items tokens.old tokens.new }
     {
         self.desk.adopt(alloc, number, segments, tokens);
@@ -185,7 +189,8 @@ pub(crate) fn adopt_nodes<D: Area + Drop>(
     requires pieces { AreNodePieces D.Area segments.now.geometry.words pieces.items }
     requires all_tokens { length tokens.old ≡ segments.now.geometry.segments }
     requires tokens { AreTokens segments.now.geometry tokens.old }
-    ensures made { AreMadeNodes D.Area segments.now.geometry segments.now.pieces.items tokens.old pieces.items nodes.new }
+    ensures made { AreMadeNodes D.Area segments.now.geometry segments.now.pieces.items tokens.old pieces.items
+        nodes.new }
     ensures left { AreLeftBy (length nodes.old) segments.now.pieces.items tokens.old tokens.new }
 {
     for (number, node) in nodes.iter_mut().enumerate() {

@@ -11,10 +11,11 @@ use crate::world_phase::WorldPhase;
 use lc_disk::Area;
 
 impl<D: Area + Drop> World<D> {
-    /// The area at this place in the order of the store, the logs of its nodes and then its segments, be it up or down. It
-    /// calls no area, and takes no memory.
+    /// The area at this place in the order of the store, the logs of its nodes and then its segments, be it up or down.
+    /// It calls no area, and takes no memory.
     pub fn area(&self, place: usize) -> Option<&D>
-        ensures { (g : Sizes) (areas : List D) → HasAreas D.Area self.now.phase g areas → option_copied result ≡ slice_get areas place }
+        ensures { (g : Sizes) (areas : List D) → HasAreas D.Area self.now.phase g areas
+            → option_copied result ≡ slice_get areas place }
     {
         match &self.phase {
             WorldPhase::Down(recovery) => recovery.area(place),

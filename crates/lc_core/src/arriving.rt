@@ -16,7 +16,8 @@ impl Desk {
     pub(crate) fn arrive(&mut self, token: Token) -> Result<(), (Token, TokenFault)>
         requires first { 1 ≤ token.segment }
         requires slot { token.segment ≤ vec_len self.old.here.slots }
-        requires empty { ForSome (slice_get self.old.here.slots.items (token.segment - 1)) (λ slot. slot.token.token ≡ None) }
+        requires empty { ForSome (slice_get self.old.here.slots.items (token.segment - 1)) (λ slot. slot.token.token
+            ≡ None) }
         ensures arrives { ForSome (slice_get self.old.here.slots.items (token.segment - 1)) (λ slot.
             Arrives token slot self.old result self.new) }
     {

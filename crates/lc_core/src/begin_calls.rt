@@ -21,7 +21,8 @@ impl<D: Area + Drop> NodeState<D> {
     /// One of its threads begins. It takes no memory.
     pub(crate) fn begin(&mut self, thread: u16, segments: &[u32], reading: &[u32]) -> Reply
         requires seat { thread < vec_len self.old.desk.seats }
-        ensures { (node : ℕ) → StepsNode D.Area node (Begin node thread segments.now reading.now) self.old (Ok result) self.new }
+        ensures { (node : ℕ) → StepsNode D.Area node (Begin node thread segments.now reading.now) self.old
+            (Ok result) self.new }
     {
         match self.desk.begin(thread, segments, reading) {
             Ok(reply) => reply,
@@ -57,9 +58,11 @@ impl<D: Area + Drop> Running<D> {
     ) -> Option<Refusal>
         ensures refused { Refuses D.Area self.now (Begin node thread segments.now reading.now) result }
         ensures names { ForSome result (λ refusal. is_common refusal ≡ true) }
-        ensures unknown { ForSome result (λ refusal. RefusesUnknown self.now.geometry (Begin node thread segments.now reading.now) (Refused refusal)) }
+        ensures unknown { ForSome result (λ refusal.
+            RefusesUnknown self.now.geometry (Begin node thread segments.now reading.now) (Refused refusal)) }
         ensures known { result ≡ None → is_known self.now.geometry (Begin node thread segments.now reading.now) ≡ true }
-        ensures running { result ≡ None → ActsRunning D.Area (named (Begin node thread segments.now reading.now)) self.now.nodes.items }
+        ensures running { result ≡ None → ActsRunning D.Area
+            (named (Begin node thread segments.now reading.now)) self.now.nodes.items }
     {
         if !knows_begin(&self.geometry, node, thread, segments, reading) {
             return Some(Refusal::Unknown);

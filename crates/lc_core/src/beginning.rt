@@ -20,7 +20,8 @@ impl Desk {
         reading: &[u32],
     ) -> Result<Reply, AllocError>
         requires seat { thread < vec_len self.old.seats }
-        ensures follows { IfOk result (λ reply. (node : ℕ) → FollowsOpen node self.old (Begin node thread segments.now reading.now) reply self.new) }
+        ensures follows { IfOk result (λ reply. (node : ℕ)
+            → FollowsOpen node self.old (Begin node thread segments.now reading.now) reply self.new) }
         ensures beside { the_images.IsSameBeside self.old.here self.new.here }
         ensures err { OnErr result (StillFits self.old self.new) }
         ensures memory { OnErr result ⊥ }

@@ -25,7 +25,8 @@ const UNWRITTEN: PageText = PageText {
 };
 
 impl SegmentCopy {
-    /// The slot of a segment, from 1, of zeros, with its token where it is to stand at this node. It takes memory for both.
+    /// The slot of a segment, from 1, of zeros, with its token where it is to stand at this node. It takes memory for
+    /// both.
     pub(crate) fn blank(
         alloc: Global,
         geometry: &Geometry,

@@ -1,6 +1,7 @@
 //! Which pages a truncation cannot write, since a transaction is at work on them.
 ghost use Rattle.std.specs.Prelude.{◌≡◌, ◌≤◌, ◌-◌, ◌↔◌, IsTrue, slice_get};
-ghost use Rattle.lc_core.specs.Truncating.{HasBlocked, HasBlockedIn, HasOpenOn, IsBlocked, newer_at, newer_in, newer_of, sizes_of, under_way_at, under_way_in, under_way_of};
+ghost use Rattle.lc_core.specs.Truncating.{HasBlocked, HasBlockedIn, HasOpenOn, IsBlocked, newer_at, newer_in};
+ghost use Rattle.lc_core.specs.Truncating.{newer_of, sizes_of, under_way_at, under_way_in, under_way_of};
 ghost use Rattle.lc_core.specs.declared.world_phase.WorldPhase.TheVariants.{Up as IsUp};
 
 use crate::node_state::NodeState;

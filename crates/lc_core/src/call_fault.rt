@@ -5,7 +5,7 @@ ghost use Rattle.lc_core.specs.declared.call_fault.CallFault.TheVariants.{NoMemo
 use crate::Refusal;
 use std::alloc::AllocError;
 
-/// Why a call that may want memory is not carried out. This project's own.
+/// Why a call that may want memory is not carried out.
 #[derive(Clone, Copy, PartialEq, Eq)]
 pub enum CallFault {
     /// The store refuses it.

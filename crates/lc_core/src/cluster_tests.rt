@@ -18,8 +18,8 @@ use lc_rest::{AdoptFault, ClusterPart};
 use std::alloc::Global;
 
 impl ReadParts {
-    /// What the segments are made of, where all parts agree: first each node's records are looked at, then each token, then the
-    /// merge, and then the images of each segment. It takes memory.
+    /// What the segments are made of, where all parts agree: first each node's records are looked at, then each token,
+    /// then the merge, and then the images of each segment. It takes memory.
     ///
     /// # Errors
     ///
@@ -34,9 +34,12 @@ impl ReadParts {
         requires pieces { length pieces.now ≡ self.now.geometry.nodes }
         requires images { AreImages self.now.geometry nodes.now }
         ensures geometry { IfOk result (λ contents. contents.geometry ≡ self.now.geometry) }
-        ensures passes { IfOk result (λ contents. (turns : List ℕ) × PassesIn self.now (map (λ (piece : TheNode D D.Area). piece.known) pieces.now) nodes.now turns
-            × ((k : ℕ) (piece : ThePiece) → slice_get contents.pieces.items k ≡ Some piece → IsPieceOf (tests_of self.now turns) (k + 1) piece)) }
-        ensures mismatch { (part : ThePart) → result ≡ Err (Mismatch part) → FailsIn self.now (map (λ (piece : TheNode D D.Area). piece.known) pieces.now) nodes.now part }
+        ensures passes { IfOk result (λ contents. (turns : List ℕ)
+            × PassesIn self.now (map (λ (piece : TheNode D D.Area). piece.known) pieces.now) nodes.now turns
+            × ((k : ℕ) (piece : ThePiece) → slice_get contents.pieces.items k ≡ Some piece
+            → IsPieceOf (tests_of self.now turns) (k + 1) piece)) }
+        ensures mismatch { (part : ThePart) → result ≡ Err (Mismatch part)
+            → FailsIn self.now (map (λ (piece : TheNode D D.Area). piece.known) pieces.now) nodes.now part }
         ensures device { result ≡ Err Failed → ⊥ }
     {
         if let Some(node) = self.foreign_node(pieces) {

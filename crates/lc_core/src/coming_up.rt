@@ -31,7 +31,8 @@ impl<D: Stoppable + Drop> World<D> {
         ensures born { OnOk result (IsNewborn D.Area self.new.phase) }
         ensures up { OnOk result ((observed D.Area self.new).up ≡ true) }
         ensures kept { OnErr result ((observed D.Area self.new).up ≡ (observed D.Area self.old).up) }
-        ensures at_once { (observed D.Area self.old).up ≡ true → (result ≡ Err (Refused OutOfTurn)) × (self.new.phase ≡ self.old.phase) }
+        ensures at_once { (observed D.Area self.old).up ≡ true
+            → (result ≡ Err (Refused OutOfTurn)) × (self.new.phase ≡ self.old.phase) }
         ensures geometry { phase_geometry D.Area self.new.phase ≡ phase_geometry D.Area self.old.phase }
     {
         'steps: loop {

@@ -34,14 +34,16 @@ impl<D: Area + Drop> Running<D> {
         }
     }
 
-    /// Why what a thread asks of a segment is refused at once, whatever it asks, be it a range of none: the node, the thread or
-    /// the segment is unknown, or the node is halted.
+    /// Why what a thread asks of a segment is refused at once, whatever it asks, be it a range of none: the node, the
+    /// thread or the segment is unknown, or the node is halted.
     pub(crate) fn place_refusal(&self, node: u16, thread: u16, segment: u32) -> Option<Refusal>
         ensures refused { Refuses D.Area self.now (SetRange node thread segment 0 0) result }
         ensures names { ForSome result (λ refusal. is_common refusal ≡ true) }
-        ensures unknown { ForSome result (λ refusal. RefusesUnknown self.now.geometry (SetRange node thread segment 0 0) (Refused refusal)) }
+        ensures unknown { ForSome result (λ refusal.
+            RefusesUnknown self.now.geometry (SetRange node thread segment 0 0) (Refused refusal)) }
         ensures known { result ≡ None → is_known self.now.geometry (SetRange node thread segment 0 0) ≡ true }
-        ensures running { result ≡ None → ActsRunning D.Area (named (SetRange node thread segment 0 0)) self.now.nodes.items }
+        ensures running { result ≡ None → ActsRunning D.Area
+            (named (SetRange node thread segment 0 0)) self.now.nodes.items }
     {
         if !knows_place(&self.geometry, node, thread, segment) {
             return Some(Refusal::Unknown);
@@ -59,7 +61,8 @@ impl<D: Area + Drop> Running<D> {
     pub(crate) fn seat_refusal(&self, node: u16, thread: u16) -> Option<Refusal>
         ensures refused { Refuses D.Area self.now (Close node thread) result }
         ensures names { ForSome result (λ refusal. is_common refusal ≡ true) }
-        ensures unknown { ForSome result (λ refusal. RefusesUnknown self.now.geometry (Close node thread) (Refused refusal)) }
+        ensures unknown { ForSome result (λ refusal.
+            RefusesUnknown self.now.geometry (Close node thread) (Refused refusal)) }
         ensures known { result ≡ None → is_known self.now.geometry (Close node thread) ≡ true }
         ensures running { result ≡ None → ActsRunning D.Area (named (Close node thread)) self.now.nodes.items }
     {

@@ -32,8 +32,8 @@ enum Delivery {
 
 impl<D: Area + Drop> Running<D> {
     /// A record that a node has published comes to a node, which applies its part of a segment once it has applied all
-    /// before it; the record is named by its number, from 1. It takes memory only for a part that the node does not know,
-    /// and not where that is the next and none is held back: it is put on the image from where the record stands.
+    /// before it; the record is named by its number, from 1. It takes memory only for a part that the node does not
+    /// know, and not where that is the next and none is held back: it is put on the image from where the record stands.
     pub(crate) fn deliver(
         &mut self,
         alloc: Global,
@@ -43,7 +43,8 @@ impl<D: Area + Drop> Running<D> {
         to: u16,
     ) -> Result<Reply, AllocError>
         requires known { is_known self.old.geometry (Deliver sender number segment to) ≡ true }
-        ensures follows { IfOk result (λ reply. FollowsRow D.Area self.old (Deliver sender number segment to) reply self.new) }
+        ensures follows { IfOk result (λ reply.
+            FollowsRow D.Area self.old (Deliver sender number segment to) reply self.new) }
         ensures memory { OnErr result (WantsPart D.Area sender number segment to self.old) }
         ensures err { OnErr result (StillFitsAll D.Area self.old self.new) }
         ensures names { IfOk result (λ reply. may_deliver reply ≡ true) }
@@ -68,8 +69,8 @@ impl<D: Area + Drop> Running<D> {
         }
     }
 
-    // What the record of this number brings. It takes memory only for one whose part is new, and not for the next while none is
-    // held back.
+    // What the record of this number brings. It takes memory only for one whose part is new, and not for the next while
+    // none is held back.
     fn delivery(
         &self,
         alloc: Global,

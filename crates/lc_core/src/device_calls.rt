@@ -26,8 +26,8 @@ impl<D: Stoppable + Drop> World<D> {
         flush_progress(&reply)
     }
 
-    /// One of the six device calls that write a page, from 0, of a segment, from 1, whose token is at the node. It takes no
-    /// memory.
+    /// One of the six device calls that write a page, from 0, of a segment, from 1, whose token is at the node. It
+    /// takes no memory.
     ///
     /// # Errors
     ///
@@ -55,8 +55,8 @@ impl<D: Stoppable + Drop> World<D> {
     ///
     /// # Errors
     ///
-    /// `Down`, `Unknown`, `Halted`, `Unflushed`, `Unclean`, `RoundsSpent`: nothing has changed then. `DeviceFault`: the node
-    /// is halted from then on.
+    /// `Down`, `Unknown`, `Halted`, `Unflushed`, `Unclean`, `RoundsSpent`: nothing has changed then. `DeviceFault`: the
+    /// node is halted from then on.
     pub fn reset_step(&mut self, alloc: Global, node: u16) -> Result<ResetProgress, Refusal>
         ensures { StepsTo D.Area self.old (ResetStep node) (emptied result) self.new }
     {

@@ -10,13 +10,14 @@ use crate::showing::page_in;
 use lc_page::{Begun, PAGE_BYTES, PageWrite, is_sequence};
 
 impl Desk {
-    /// A write of a page of a segment, from 1, as it is here, under the number of the token, which stands here. There is none
-    /// where the page on the disk has that number already. It takes no memory.
+    /// A write of a page of a segment, from 1, as it is here, under the number of the token, which stands here. There
+    /// is none where the page on the disk has that number already. It takes no memory.
     pub(crate) fn draft(&self, segment: u32, page: u32) -> Option<PageWrite<Begun>>
         requires first { 1 ≤ segment }
         requires slot { segment ≤ vec_len self.now.here.slots }
         ensures page { IfSome result (λ write. write.draft.page ≡ page) }
-        ensures drafts { (slot : SegmentCopy) (token : Token) → slice_get self.now.here.slots.items (segment - 1) ≡ Some slot → slot.token.token ≡ Some token
+        ensures drafts { (slot : SegmentCopy) (token : Token)
+            → slice_get self.now.here.slots.items (segment - 1) ≡ Some slot → slot.token.token ≡ Some token
             → MayDraft page token slot → MatchOption result (token.seq ≤ (entry_at token.pages page).stable)
             (λ write. IsDraft page token slot write.draft write.state.gate) }
     {
@@ -29,8 +30,8 @@ impl Desk {
         PageWrite::begin(token.pages(), page, &bytes, token.seq()).ok()
     }
 
-    /// Notes that a page of a segment, from 1, was written under a number, where the segment's token stands here. It takes no
-    /// memory.
+    /// Notes that a page of a segment, from 1, was written under a number, where the segment's token stands here. It
+    /// takes no memory.
     pub(crate) fn note_written(&mut self, segment: u32, page: u32, number: u64)
         requires first { 1 ≤ segment }
         requires slot { segment ≤ vec_len self.old.here.slots }

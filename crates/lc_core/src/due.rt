@@ -1,7 +1,8 @@
 //! Which pages are to be written at a node before its log can be emptied.
 ghost use Rattle.std.specs.Prelude.{◌≡◌, ◌≤◌, ◌-◌, ◌+◌, ◌*◌, slice_get};
 ghost use Rattle.lc_page.specs.PageVector.{entry_at, is_dirty};
-ghost use Rattle.lc_core.specs.Truncating.{EachFrom, WritesSegment, begun_at, begun_in, due_in, due_of, is_due, sizes_of};
+ghost use Rattle.lc_core.specs.Truncating.{EachFrom, WritesSegment, begun_at, begun_in, due_in, due_of, is_due};
+ghost use Rattle.lc_core.specs.Truncating.{sizes_of};
 ghost use Rattle.lc_core.specs.Truncation.{IsFirstDue, IsNext, WritesAt, calls_left};
 ghost use Rattle.lc_core.specs.declared.world_phase.WorldPhase.TheVariants.{Up as IsUp};
 
@@ -19,7 +20,8 @@ use lc_page::PageVector;
 const LAST_ROUND: u32 = 12;
 
 impl<D: Area + Drop> World<D> {
-    /// Whether the token of a segment, from 1, stands at a node, and this page of it is dirty or a write of it has begun.
+    /// Whether the token of a segment, from 1, stands at a node, and this page of it is dirty or a write of it has
+    /// begun.
     fn is_due(&self, node: u16, segment: u32, page: u32) -> bool
         requires first { 1 ≤ segment }
         ensures { result ≡ is_due D.Area self.now.phase node segment page }
@@ -74,7 +76,8 @@ impl<D: Area + Drop> World<D> {
     ) -> Option<PageCursor>
         requires few_segments { segments ≤ 16 }
         requires few_pages { pages ≤ 1024 }
-        ensures { IsNext D.Area node (EachFrom D.Area (segments - from) from (λ place. WritesSegment D.Area node (place + 1) pages)) ((segments - from) * 32768 + 27648) self.now result }
+        ensures { IsNext D.Area node (EachFrom D.Area (segments - from) from (λ place.
+            WritesSegment D.Area node (place + 1) pages)) ((segments - from) * 32768 + 27648) self.now result }
     {
         for place in from..segments {
             if let Some(page) = self.first_due(node, place + 1, 0, pages) {

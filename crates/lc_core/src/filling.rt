@@ -20,14 +20,15 @@ use lc_tx::Image;
 use std::alloc::Global;
 
 impl SegmentCopy {
-    /// The slot of a segment, from 1, gets its pages and its number, and so does the token where it stands here. It takes
-    /// no memory.
+    /// The slot of a segment, from 1, gets its pages and its number, and so does the token where it stands here. It
+    /// takes no memory.
     pub(crate) fn fill<D: Area>(&mut self, alloc: Global, segment: u32, recovered: &Recovered<D>)
         requires first { 1 ≤ segment }
         requires last { segment ≤ recovered.now.geometry.segments }
         requires slot { IsOfSegment recovered.now.geometry segment self.old }
         ensures slot { IsOfSegment recovered.now.geometry segment self.new }
-        ensures fresh { (node : ℕ) → StandsAt recovered.now.geometry node segment self.old → IsFreshSlot recovered.now node segment self.new }
+        ensures fresh { (node : ℕ) → StandsAt recovered.now.geometry node segment self.old
+            → IsFreshSlot recovered.now node segment self.new }
     {
         fill_image(&mut self.image, segment, recovered);
         self.token = filled(&mut self.token, segment, recovered);
@@ -50,14 +51,16 @@ fn fill_image<D: Area>(image: &mut Image, segment: u32, recovered: &Recovered<D>
     }
 }
 
-// The place of a segment with the token that was here: it has counted all its records, and all of them are on its pages.
+// The place of a segment with the token that was here: it has counted all its records, and all of them are on its
+// pages.
 fn filled<D: Area>(place: &mut TokenPlace, segment: u32, recovered: &Recovered<D>) -> TokenPlace
     requires first { 1 ≤ segment }
     requires last { segment ≤ recovered.now.geometry.segments }
     requires segment { place.old.segment ≡ segment }
     requires pages { ForSome place.old.token (λ token. length token.pages ≡ recovered.now.geometry.pages) }
     ensures segment { result.segment ≡ segment }
-    ensures token { result.token ≡ (if is_some place.old.token then Some (fresh_token recovered.now segment) else None) }
+    ensures token { result.token
+        ≡ (if is_some place.old.token then Some (fresh_token recovered.now segment) else None) }
 {
     let Ok(token) = place.leave(false, false, 0, 0) else {
         return TokenPlace::new(segment, None);
@@ -73,7 +76,8 @@ fn fill_pages<D: Area>(pages: &mut PageVector, segment: u32, recovered: &Recover
     requires first { 1 ≤ segment }
     requires last { segment ≤ recovered.now.geometry.segments }
     requires len { length pages.old ≡ recovered.now.geometry.pages }
-    ensures { pages.new ≡ map (λ page. new_entry (page_of recovered.now segment page).text) (counting 0 recovered.now.geometry.pages) }
+    ensures { pages.new ≡ map (λ page. new_entry (page_of recovered.now segment page).text)
+        (counting 0 recovered.now.geometry.pages) }
 {
     let count = recovered.geometry().pages;
     for page in 0..count {
@@ -86,7 +90,8 @@ fn fill_slots<D: Area>(slots: &mut [SegmentCopy], alloc: Global, recovered: &Rec
     requires count { length slots.old ≡ recovered.now.geometry.segments }
     requires slots { AreOfSegments recovered.now.geometry slots.old }
     ensures slots { AreOfSegments recovered.now.geometry slots.new }
-    ensures fresh { (node : ℕ) → StandAt recovered.now.geometry node slots.old → AreFreshSlots recovered.now node slots.new }
+    ensures fresh { (node : ℕ) → StandAt recovered.now.geometry node slots.old
+        → AreFreshSlots recovered.now node slots.new }
 {
     for (place, slot) in slots.iter_mut().enumerate() {
         slot.fill(alloc, place as u32 + 1, recovered);
@@ -94,8 +99,8 @@ fn fill_slots<D: Area>(slots: &mut [SegmentCopy], alloc: Global, recovered: &Rec
 }
 
 impl Desk {
-    /// The slots of a desk, where no thread does anything, get what the recovery has made of their segments. It takes no
-    /// memory.
+    /// The slots of a desk, where no thread does anything, get what the recovery has made of their segments. It takes
+    /// no memory.
     pub(crate) fn fill<D: Area>(&mut self, alloc: Global, recovered: &Recovered<D>)
         requires desk { IsBlankDesk recovered.now.geometry self.old }
         ensures desk { IsBlankDesk recovered.now.geometry self.new }
@@ -109,11 +114,12 @@ impl Desk {
 impl<D: Area + Drop> NodeState<D> {
     ghost use Rattle.lc_core.specs.Blank.{IsBlankNode, IsFilledNode};
 
-    /// The slots of a node, where no thread does anything, get what the recovery has made of their segments, and the node sees
-    /// how clean the tokens that stand there call them. It takes no memory.
+    /// The slots of a node, where no thread does anything, get what the recovery has made of their segments, and the
+    /// node sees how clean the tokens that stand there call them. It takes no memory.
     pub(crate) fn fill(&mut self, alloc: Global, recovered: &Recovered<D>)
         requires desk { IsBlankDesk recovered.now.geometry self.old.desk }
-        ensures fresh { (node : ℕ) → IsBlankNode D.Area recovered.now.geometry node self.old → IsFilledNode D.Area recovered.now node self.new }
+        ensures fresh { (node : ℕ) → IsBlankNode D.Area recovered.now.geometry node self.old
+            → IsFilledNode D.Area recovered.now node self.new }
     {
         self.desk.fill(alloc, recovered);
         let segments = recovered.geometry().segments;

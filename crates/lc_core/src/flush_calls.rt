@@ -13,8 +13,9 @@ use std::alloc::Global;
 const CALLS: u32 = 4;
 
 impl<D: Stoppable + Drop> World<D> {
-    /// Makes the closed records of a node stable, as `flush_step` again and again, as long as more is to come: `Acked` with how
-    /// many records of the node are acknowledged then, or `Nothing` where there was none to flush. It takes no memory.
+    /// Makes the closed records of a node stable, as `flush_step` again and again, as long as more is to come: `Acked`
+    /// with how many records of the node are acknowledged then, or `Nothing` where there was none to flush. It takes no
+    /// memory.
     ///
     /// # Errors
     ///

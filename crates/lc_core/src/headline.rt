@@ -1,5 +1,6 @@
 //! What a store promises of a whole run.
-ghost use Rattle.std.specs.Prelude.{◌≡◌, ◌≢◌, ◌⊎◌, ◌<◌, ℕ, List, [], IfErr, IfOk, None, Option, length, map, slice_get, take, true, false};
+ghost use Rattle.std.specs.Prelude.{◌≡◌, ◌≢◌, ◌⊎◌, ◌<◌, ℕ, List, [], IfErr, IfOk, None, Option, length, map, slice_get};
+ghost use Rattle.std.specs.Prelude.{take, true, false};
 ghost use Rattle.lc_model.specs.Merge.{IsLeast};
 ghost use Rattle.lc_record.specs.declared.geometry.Geometry.{Geometry as TheGeometry};
 ghost use Rattle.lc_recover.specs.Reads.{area_len};
@@ -21,10 +22,11 @@ use std::alloc::Global;
 /// A store of these areas, which begins down, and what it does with these events, one after another, as far as there is
 /// memory.
 ///
-/// Where the areas keep to the model of a disk, and whatever a stop may have left of them merges to one result: the answers are
-/// a run of the machine of plain transactions, and whatever a stop leaves of the areas now merges to the value of a prefix of a
-/// serial order of the committed transactions that has every acknowledged commit. Each reply is the settled one, and the
-/// store fits where the run has come to. Each event calls an area just where its reply tells of it, and a stop stops each.
+/// All that follows holds where the areas keep to the model of a disk, and whatever a stop may have left of them merges
+/// to one result. The answers are a run of the machine of plain transactions. Whatever a stop leaves of the areas now
+/// merges to the value of a prefix of a serial order of the committed transactions that has every acknowledged commit.
+/// Each reply is the settled one, and the store fits where the run has come to. Each event calls an area just where its
+/// reply tells of it, and a stop stops each.
 ///
 /// # Errors
 ///
@@ -42,12 +44,14 @@ pub fn run_areas<D: Stoppable + Drop>(
         AreSettled m x (take (length ran.1.replies.items) events.now) ran.1.replies.items)) }
     ensures fits { IfOk result (λ ran. OnAreas D.Area geometry areas.items (λ m x.
         Settles D.Area m x (take (length ran.1.replies.items) events.now) ran.1.replies.items ran.0)) }
-    // Whatever the areas are: what comes up has the content of a store that was read, and up to the next stop each reply is one of
-    // the machine of that content.
-    ensures lives { IfOk result (λ ran. (after : Option Life) × Lives geometry None (take (length ran.1.replies.items) events.now)
+    // Whatever the areas are: what comes up has the content of a store that was read, and up to the next stop each
+    // reply is one of the machine of that content.
+    ensures lives { IfOk result (λ ran. (after : Option Life)
+        × Lives geometry None (take (length ran.1.replies.items) events.now)
         ran.1.replies.items after × FitsLife D.Area geometry after ran.0.phase) }
     ensures calls { IfOk result (λ ran. (g : TheGeometry) (news : List D) → (observed D.Area ran.0).gives g news
-        → CallsEach D.Area D.left geometry (take (length ran.1.replies.items) events.now) ran.1.replies.items areas.items news) }
+        → CallsEach D.Area D.left geometry
+        (take (length ran.1.replies.items) events.now) ran.1.replies.items areas.items news) }
     ensures all { IfOk result (λ ran. ran.1.out_of_memory ≡ false
         → length ran.1.replies.items ≡ length events.now) }
     ensures some { IfOk result (λ ran. ran.1.out_of_memory ≡ true

@@ -3,7 +3,8 @@ ghost use Rattle.std.proofs.Common.{refl};
 ghost use Rattle.std.specs.Prelude.{◌≡◌, ◌≤◌, ◌↔◌, IsTrue, vec_len};
 ghost use Rattle.lc_range.specs.RangeSet.{IsCanonical};
 ghost use Rattle.lc_core.specs.Counts.{CountsAll};
-ghost use Rattle.lc_core.specs.Here.{the_images, same_numbers, own_image, other_image, beside_itself, beside_image, beside_chained};
+ghost use Rattle.lc_core.specs.Here.{the_images, same_numbers, own_image, other_image, beside_itself, beside_image};
+ghost use Rattle.lc_core.specs.Here.{beside_chained};
 
 use crate::segment_copy::SegmentCopy;
 use lc_range::Range;
@@ -54,9 +55,9 @@ impl Images for Here {
 }
 
 impl Here {
-    /// A record with these ranges, ascending, is closed: each token of a segment with a range has the next number, under
-    /// which the pages of its ranges are changed, and the node has applied it. A slot whose token cannot count stays. It
-    /// takes no memory.
+    /// A record with these ranges, ascending, is closed: each token of a segment with a range has the next number,
+    /// under which the pages of its ranges are changed, and the node has applied it. A slot whose token cannot count
+    /// stays. It takes no memory.
     pub(crate) fn count(&mut self, ranges: &[Range])
         requires canonical { IsCanonical ranges.now }
         ensures counts { CountsAll ranges.now self.old.slots.items self.new.slots.items }

@@ -1,5 +1,6 @@
 //! The tests of the images and of the pages of each segment, and what the segments of a store are made of.
-ghost use Rattle.std.specs.Prelude.{◌≡◌, ◌+◌, ◌-◌, ◌<◌, ◌≤◌, ◌↔◌, ◌^◌, ℕ, List, [], IfErr, IfNone, IfOk, IfSome, IsTrue, Some, length, map, slice_get, true};
+ghost use Rattle.std.specs.Prelude.{◌≡◌, ◌+◌, ◌-◌, ◌<◌, ◌≤◌, ◌↔◌, ◌^◌, ℕ, List, [], IfErr, IfNone, IfOk, IfSome};
+ghost use Rattle.std.specs.Prelude.{IsTrue, Some, length, map, slice_get, true};
 ghost use Rattle.lc_rest.specs.Merge.{logs_of, merged_after, number_at};
 ghost use Rattle.lc_rest.specs.Replay.{IsReplay, bytes_after};
 ghost use Rattle.lc_rest.specs.Stable.{bytes_up_to};
@@ -21,8 +22,9 @@ use lc_rest::{comes_up, in_order, replay_segment, replay_up_to, stable_number};
 use std::alloc::{AllocError, Global};
 
 impl ReadParts {
-    /// What the segments are made of, where all records follow one another in this order, or the first segment whose images or
-    /// pages fail their test. It takes memory for the records in their order, and for the bytes of all segments.
+    /// What the segments are made of, where all records follow one another in this order, or the first segment whose
+    /// images or pages fail their test. It takes memory for the records in their order, and for the bytes of all
+    /// segments.
     pub(crate) fn test_images(
         &self,
         alloc: Global,
@@ -35,9 +37,12 @@ impl ReadParts {
         requires merged { AreMerged (tests_of self.now order.now) }
         requires images { AreImages self.now.geometry nodes.now }
         ensures geometry { IfOk result (λ tested. IfOk tested (λ pieces. pieces.geometry ≡ self.now.geometry)) }
-        ensures pieces { IfOk result (λ tested. IfOk tested (λ pieces. (k : ℕ) (piece : ThePiece) → slice_get pieces.pieces.items k ≡ Some piece → IsPieceOf (tests_of self.now order.now) (k + 1) piece)) }
-        ensures keeps { IfOk result (λ tested. IfOk tested (λ _. (segment : ℕ) → 1 ≤ segment → segment ≤ self.now.geometry.segments → KeepsPictures (tests_of self.now order.now) nodes.now segment)) }
-        ensures fails { IfOk result (λ tested. IfErr tested (λ segment. (segment ≤ self.now.geometry.segments) × IsFirst (KeepsPictures (tests_of self.now order.now) nodes.now) 1 segment)) }
+        ensures pieces { IfOk result (λ tested. IfOk tested (λ pieces. (k : ℕ) (piece : ThePiece)
+            → slice_get pieces.pieces.items k ≡ Some piece → IsPieceOf (tests_of self.now order.now) (k + 1) piece)) }
+        ensures keeps { IfOk result (λ tested. IfOk tested (λ _. (segment : ℕ) → 1 ≤ segment
+            → segment ≤ self.now.geometry.segments → KeepsPictures (tests_of self.now order.now) nodes.now segment)) }
+        ensures fails { IfOk result (λ tested. IfErr tested (λ segment. (segment ≤ self.now.geometry.segments)
+            × IsFirst (KeepsPictures (tests_of self.now order.now) nodes.now) 1 segment)) }
     {
         let records = in_order(alloc, self.logs.as_slice(), order)?;
         let mut pieces = Vec::with_capacity(alloc, numbers.len())?;
@@ -54,7 +59,8 @@ impl ReadParts {
         }))
     }
 
-    // What the segment at this place, which has this number before all its records, is made of, if its test does not fail.
+    // What the segment at this place, which has this number before all its records, is made of, if its test does not
+    // fail.
     fn piece(
         &self,
         alloc: Global,
@@ -68,9 +74,16 @@ impl ReadParts {
         requires tokens { AllKeepTokens (tests_of self.now []) }
         requires images { AreImages self.now.geometry nodes.now }
         ensures long { IfOk result (λ tested. IfSome tested (IsLong self.now.geometry)) }
-        ensures piece { IfOk result (λ tested. IfSome tested (λ piece. (turns : List ℕ) → map (λ r. r.now) records.now ≡ merged_after (logs_of self.now.logs.items) [] turns → IsPieceOf (tests_of self.now turns) (place + 1) piece)) }
-        ensures keeps { IfOk result (λ tested. IfSome tested (λ _. (turns : List ℕ) → map (λ r. r.now) records.now ≡ merged_after (logs_of self.now.logs.items) [] turns → KeepsPictures (tests_of self.now turns) nodes.now (place + 1))) }
-        ensures fails { IfOk result (λ tested. IfNone tested ((turns : List ℕ) → map (λ r. r.now) records.now ≡ merged_after (logs_of self.now.logs.items) [] turns → KeepsPictures (tests_of self.now turns) nodes.now (place + 1) → ⊥)) }
+        ensures piece { IfOk result (λ tested. IfSome tested (λ piece. (turns : List ℕ)
+            → map (λ r. r.now) records.now ≡ merged_after (logs_of self.now.logs.items) [] turns
+            → IsPieceOf (tests_of self.now turns) (place + 1) piece)) }
+        ensures keeps { IfOk result (λ tested. IfSome tested (λ _. (turns : List ℕ)
+            → map (λ r. r.now) records.now ≡ merged_after (logs_of self.now.logs.items) [] turns
+            → KeepsPictures (tests_of self.now turns) nodes.now (place + 1))) }
+        ensures fails { IfOk result (λ tested.
+            IfNone tested ((turns : List ℕ)
+            → map (λ r. r.now) records.now ≡ merged_after (logs_of self.now.logs.items) [] turns
+            → KeepsPictures (tests_of self.now turns) nodes.now (place + 1) → ⊥)) }
     {
         let at = place as usize;
         let holder = self.holders[at];
@@ -98,8 +111,8 @@ impl ReadParts {
         }))
     }
 
-    // The bytes that all records make of the pages of the segment at this place, if each page is what the records up to its
-    // sequence make of them.
+    // The bytes that all records make of the pages of the segment at this place, if each page is what the records up to
+    // its sequence make of them.
     fn replayed(
         &self,
         alloc: Global,
@@ -109,9 +122,16 @@ impl ReadParts {
     ) -> Result<Option<Vec<u8>>, AllocError>
         requires place { place < self.now.geometry.segments }
         requires small { first ≤ 2 ^ 60 }
-        ensures bytes { IfOk result (λ tested. IfSome tested (λ bytes. bytes.items ≡ bytes_after (place + 1) (map (λ r. r.now) records.now) ((tests_of self.now []).bytes (place + 1)))) }
-        ensures replay { IfOk result (λ tested. IfSome tested (λ _. IsReplay (place + 1) first ((tests_of self.now []).token (place + 1)).seq (map (λ r. r.now) records.now) ((tests_of self.now []).bytes (place + 1)) ((tests_of self.now []).area (place + 1)) self.now.geometry.pages)) }
-        ensures fails { IfOk result (λ tested. IfNone tested (IsReplay (place + 1) first ((tests_of self.now []).token (place + 1)).seq (map (λ r. r.now) records.now) ((tests_of self.now []).bytes (place + 1)) ((tests_of self.now []).area (place + 1)) self.now.geometry.pages → ⊥)) }
+        ensures bytes { IfOk result (λ tested. IfSome tested (λ bytes. bytes.items
+            ≡ bytes_after (place + 1) (map (λ r. r.now) records.now) ((tests_of self.now []).bytes (place + 1)))) }
+        ensures replay { IfOk result (λ tested. IfSome tested (λ _.
+            IsReplay (place + 1) first ((tests_of self.now []).token (place + 1)).seq (map (λ r. r.now) records.now)
+            ((tests_of self.now []).bytes (place + 1))
+            ((tests_of self.now []).area (place + 1)) self.now.geometry.pages)) }
+        ensures fails { IfOk result (λ tested.
+            IfNone tested (IsReplay (place + 1) first ((tests_of self.now []).token (place + 1)).seq
+            (map (λ r. r.now) records.now) ((tests_of self.now []).bytes (place + 1))
+            ((tests_of self.now []).area (place + 1)) self.now.geometry.pages → ⊥)) }
     {
         let at = place as usize;
         let mut bytes = self.bytes[at].as_slice().to_vec(alloc)?;
@@ -136,7 +156,9 @@ impl ReadParts {
         records: &[&Record],
     ) -> Result<Vec<u8>, AllocError>
         requires { place < self.now.geometry.segments }
-        ensures { IfOk result (λ bytes. bytes.items ≡ bytes_up_to (place + 1) number (map (λ r. r.now) records.now) ((tests_of self.now []).bytes (place + 1))) }
+        ensures { IfOk result (λ bytes. bytes.items
+            ≡ bytes_up_to (place + 1) number (map (λ r. r.now) records.now)
+            ((tests_of self.now []).bytes (place + 1))) }
     {
         let mut bytes = self.bytes[place as usize].as_slice().to_vec(alloc)?;
         replay_up_to(place + 1, number, records, bytes.as_mut_slice());
@@ -173,8 +195,11 @@ fn all_come_up(
     bytes: &[u8],
 ) -> Result<bool, AllocError>
     requires small { place < 2 ^ 32 - 1 }
-    requires images { (n : ℕ) (node : TheImages) → slice_get nodes.now n ≡ Some node → (place < length node.images.items) × (place < length node.applied.items) }
-    ensures { IfOk result (λ up. IsTrue up ↔ ((n : ℕ) (node : TheImages) → slice_get nodes.now n ≡ Some node → ComesUp place (map (λ r. r.now) records.now) node bytes.now)) }
+    requires images { (n : ℕ) (node : TheImages) → slice_get nodes.now n ≡ Some node
+        → (place < length node.images.items) × (place < length node.applied.items) }
+    ensures { IfOk result (λ up. IsTrue up
+        ↔ ((n : ℕ) (node : TheImages) → slice_get nodes.now n ≡ Some node
+        → ComesUp place (map (λ r. r.now) records.now) node bytes.now)) }
 {
     for node in nodes {
         if !image_comes_up(alloc, place, records, node, bytes)? {

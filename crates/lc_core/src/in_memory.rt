@@ -30,8 +30,9 @@ impl World<MemArea> {
     }
 }
 
-/// These events on a store of zeros in memory, one after another, as far as there is memory: what a store promises of a whole
-/// run, with nothing asked of its areas. A device never fails there, so `answers` says all but what is left of the areas.
+/// These events on a store of zeros in memory, one after another, as far as there is memory: what a store promises of a
+/// whole run, with nothing asked of its areas. A device never fails there, so `answers` says all but what is left of
+/// the areas.
 pub fn run_in_memory(
     alloc: Global,
     geometry: Geometry,

@@ -1,5 +1,5 @@
-//! How the part of a record that comes next is put on an image, from where the record stands in its node's log. Both nodes
-//! stand in one list, so the image is taken out while the log is looked at.
+//! How the part of a record that comes next is put on an image, from where the record stands in its node's log. Both
+//! nodes stand in one list, so the image is taken out while the log is looked at.
 ghost use Rattle.std.specs.Prelude.{◌≡◌, ◌≤◌, ◌-◌, None, vec_len, length, slice_get};
 ghost use Rattle.std.specs.Option.{ForSome};
 ghost use Rattle.lc_core.specs.InPlace.{LendsImage, PutsNext, TakesAtOnce};
@@ -11,8 +11,8 @@ use std::alloc::Global;
 use std::mem;
 
 impl Desk {
-    /// Takes the image of a segment, from 1, whose token is elsewhere, out of its slot, where one without bytes stands then.
-    /// It takes no memory.
+    /// Takes the image of a segment, from 1, whose token is elsewhere, out of its slot, where one without bytes stands
+    /// then. It takes no memory.
     pub(crate) fn take_image(&mut self, alloc: Global, segment: u32) -> Image
         requires first { 1 ≤ segment }
         requires slot { segment ≤ vec_len self.old.here.slots }
@@ -23,8 +23,8 @@ impl Desk {
         mem::replace(&mut slot.image, Image::new(Vec::new(alloc)))
     }
 
-    /// Puts an image with the part of the record of this number, the next of the segment, into its slot, which counts the
-    /// record. It takes no memory.
+    /// Puts an image with the part of the record of this number, the next of the segment, into its slot, which counts
+    /// the record. It takes no memory.
     pub(crate) fn put_next(&mut self, segment: u32, seq: u64, image: Image) -> Received
         requires first { 1 ≤ segment }
         requires slot { segment ≤ vec_len self.old.here.slots }

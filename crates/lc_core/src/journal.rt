@@ -39,9 +39,12 @@ pub(crate) struct Journal<D: Area> {
     ghost short: { group.room < 2 ^ 32 },
     ghost log_room: { is_failed D.Area log ≡ false → 8 * group.room + 8 ≤ size D.Area log },
     ghost room: { length (span_of records dropped (count_of records)) ≤ group.room },
-    ghost end: { is_failed D.Area log ≡ false → is_sealed D.Area log ≡ false → end_of D.Area log ≡ length (span_of records dropped acked) },
-    ghost under_way: { is_failed D.Area log ≡ false → is_idle D.Area log ≡ false → is_sealed D.Area log ≡ false → under_way D.Area log ≡ length (span_of records acked taken) },
-    ghost busy: { is_failed D.Area log ≡ false → is_idle D.Area log ≡ false → is_sealed D.Area log ≡ false → acked < taken },
+    ghost end: { is_failed D.Area log ≡ false → is_sealed D.Area log ≡ false
+        → end_of D.Area log ≡ length (span_of records dropped acked) },
+    ghost under_way: { is_failed D.Area log ≡ false → is_idle D.Area log ≡ false → is_sealed D.Area log ≡ false
+        → under_way D.Area log ≡ length (span_of records acked taken) },
+    ghost busy: { is_failed D.Area log ≡ false → is_idle D.Area log ≡ false → is_sealed D.Area log ≡ false
+        → acked < taken },
     ghost sealed: { is_sealed D.Area log ≡ true → count_of records ≤ acked },
     ghost emptied: { is_sealed D.Area log ≡ true → end_of D.Area log ≡ 0 },
     ghost rounds: { round < 2 ^ 48 },
@@ -51,8 +54,8 @@ pub(crate) struct Journal<D: Area> {
 impl<D: Area + Drop> Journal<D> {
     ghost use Rattle.lc_core.specs.Follows.{FollowsLog};
 
-    /// One of the four device calls of a flush. The first takes all records in front of the first that is not closed. While
-    /// a reset is under way nothing waits.
+    /// One of the four device calls of a flush. The first takes all records in front of the first that is not closed.
+    /// While a reset is under way nothing waits.
     pub(crate) fn flush_step(&mut self) -> Reply
         requires up { is_failed D.Area self.old.log ≡ false }
         ensures follows { (node : ℕ) → FollowsLog D.Area node self.old (FlushStep node) result self.new }
@@ -97,7 +100,8 @@ impl<D: Area + Drop> Journal<D> {
 
     // Takes the log out, makes the call, and puts it back.
     fn advance(&mut self) -> Reply
-        requires words { is_idle D.Area self.old.log ≡ true → self.old.group.words ≡ span_of self.old.records self.old.acked self.old.taken }
+        requires words { is_idle D.Area self.old.log ≡ true
+            → self.old.group.words ≡ span_of self.old.records self.old.acked self.old.taken }
         requires some { is_idle D.Area self.old.log ≡ true → self.old.acked < self.old.taken }
         requires free { is_sealed D.Area self.old.log ≡ false }
         ensures steps { StepsTo D.Area self.old.log self.old.group.words self.new.log }

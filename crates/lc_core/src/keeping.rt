@@ -13,8 +13,10 @@ impl Records {
     /// them are closed. It takes memory for them. Where memory is wanted, as after the last number, some of the first
     /// have been added.
     pub(crate) fn keep_all(&mut self, words: &[u64]) -> Result<(), AllocError>
-        ensures kept { IfOk result (λ _. (records : List Record) → IsLogText words.now records → self.new ≡ kept_behind records self.old) }
-        ensures err { OnErr result ((records : List Record) → IsLogText words.now records → (count : ℕ) × (self.new ≡ kept_behind (take count records) self.old)) }
+        ensures kept { IfOk result (λ _. (records : List Record) → IsLogText words.now records
+            → self.new ≡ kept_behind records self.old) }
+        ensures err { OnErr result ((records : List Record) → IsLogText words.now records
+            → (count : ℕ) × (self.new ≡ kept_behind (take count records) self.old)) }
     {
         let mut place = 0;
         while let Some(record) = View::at(words, place) {

@@ -1,5 +1,6 @@
 //! The laws of the answers that the machine leaves open, each the contract of a function with nothing to do.
-ghost use Rattle.std.specs.Prelude.{◌≡◌, ◌≢◌, ◌⊎◌, ◌+◌, ◌++◌, ◌<◌, ℕ, List, [], Some, true, slice_get, slice_set, sum_by};
+ghost use Rattle.std.specs.Prelude.{◌≡◌, ◌≢◌, ◌⊎◌, ◌+◌, ◌++◌, ◌<◌, ℕ, List, [], Some, true, slice_get, slice_set};
+ghost use Rattle.std.specs.Prelude.{sum_by};
 ghost use Rattle.lc_disk.specs.Area.{IsImage};
 ghost use Rattle.lc_page.specs.declared.page_text.PageText.{PageText};
 ghost use Rattle.lc_record.specs.declared.geometry.Geometry.{Geometry as Shape};
@@ -82,38 +83,42 @@ pub fn settled_runs()
         (next : Numbers) → RunsOn m s x events replies after next → Run m s events replies after }
 {}
 
-/// What a stop leaves of the areas of a store that has come to the end of a run meets what the headline asks of areas again:
-/// with the content of what a cut kept that the stop may make, and the numbers of it. So another run may begin there.
+/// What a stop leaves of the areas of a store that has come to the end of a run meets what the headline asks of areas
+/// again. It does so with the content of what a cut kept that the stop may make, and with the numbers of that. So
+/// another run may begin there.
 pub fn next_life<D: Area>()
-    ensures { (m : Setting) (numbers : ℕ → ℕ) (events : List Event) (replies : List Reply) (failures : ℕ) (w : Store D D.Area)
-        (g : Shape) (areas news : List D) (h : Holds D.Area m numbers events replies failures (observed D.Area w)) →
-        (observed D.Area w).gives g areas → AreStopped D.Area areas news →
-        (cut : Cut) × Cuts h.after.phase m.geometry h.after cut × HaveLengths D.Area m.geometry news × AreHonest D.Area news
+    ensures { (m : Setting) (numbers : ℕ → ℕ) (events : List Event) (replies : List Reply) (failures : ℕ)
+        (w : Store D D.Area)
+        (g : Shape) (areas news : List D) (h : Holds D.Area m numbers events replies failures (observed D.Area w))
+        → (observed D.Area w).gives g areas → AreStopped D.Area areas news
+        → (cut : Cut) × Cuts h.after.phase m.geometry h.after cut × HaveLengths D.Area m.geometry news
+        × AreHonest D.Area news
         × AllMerge D.Area m.geometry news (effects (h.after.earlier ++ kept h.after.history cut) m.start)
         (counted_all numbers (h.after.earlier ++ kept h.after.history cut)) }
 {}
 
-/// A store that fits a state of the machine, up or down, gives areas of its geometry that keep to the model of a disk. Whatever
-/// a stop leaves of them merges to the value of a prefix of a serial order of the committed transactions that has every
-/// acknowledged one. It says of each step what the headline says of the end of a run.
+/// A store that fits a state of the machine, up or down, gives areas of its geometry that keep to the model of a disk.
+/// Whatever a stop leaves of them merges to the value of a prefix of a serial order of the committed transactions that
+/// has every acknowledged one. It says of each step what the headline says of the end of a run.
 pub fn fits_leaves<D: Area>()
     ensures some { (m : Setting) (s : State) (x : Numbers) (w : Store D D.Area) → FitsWorld D.Area m w s x →
         (areas : List D) × (observed D.Area w).gives m.geometry areas }
-    ensures leaves { (m : Setting) (s : State) (x : Numbers) (w : Store D D.Area) (numbers : ℕ → ℕ) (g : Shape) (areas : List D) →
-        FitsWorld D.Area m w s x → x.disks.numbers ≡ counted_all numbers s.earlier → (observed D.Area w).gives g areas →
-        (g ≡ m.geometry) × Leaves D.Area m s numbers (sum_by D.failures areas) areas }
+    ensures leaves { (m : Setting) (s : State) (x : Numbers) (w : Store D D.Area) (numbers : ℕ → ℕ) (g : Shape)
+        (areas : List D)
+        → FitsWorld D.Area m w s x → x.disks.numbers ≡ counted_all numbers s.earlier → (observed D.Area w).gives g areas
+        → (g ≡ m.geometry) × Leaves D.Area m s numbers (sum_by D.failures areas) areas }
 {}
 
-/// A store that is built of a cluster at rest that passes the tests fits a state of the machine with nothing open, whose value is
-/// what all records make of the pages.
+/// A store that is built of a cluster at rest that passes the tests fits a state of the machine with nothing open,
+/// whose value is what all records make of the pages.
 pub fn adopted<D: Area>()
     ensures fits { (f : Found) (up : ItsUp D D.Area) → IsTested f → IsAdoptedUp D.Area f up →
         FitsUp D.Area (machine_setting f) up (machine_state f) (numbers_of f) × HonestUp D.Area up }
     ensures value { (f : Found) → value f.base [] (machine_state f).history ≡ put_on f.records f.base }
 {}
 
-/// What one node does leaves the desks of the others fitting the machine: what becomes of its open transactions and of its
-/// log, a transaction that gets its place, one that is closed, and a token that leaves or arrives.
+/// What one node does leaves the desks of the others fitting the machine: what becomes of its open transactions and of
+/// its log, a transaction that gets its place, one that is closed, and a token that leaves or arrives.
 pub(crate) fn other_desks()
     ensures stays { (m : Setting) (node other : ℕ) (s after : State) (here : Slots) (seats : List Sitting) →
         (other ≡ node → ⊥) → Beside m node s after → AllRun here seats → FitsDesk m other here seats s →
@@ -131,10 +136,11 @@ pub(crate) fn other_desks()
 
 /// And their journals.
 pub(crate) fn other_journals<D: Area>()
-    ensures stays { (m : Setting) (node other : ℕ) (s : State) (x : Numbers) (after : State) (y : Numbers) (log : Between D D.Area)
-        (kept : KeptRecords) (dropped trimmed taken acked : ℕ) → (other ≡ node → ⊥) → BesideLogs m node s x after y →
-        FitsLog D.Area m other log kept dropped trimmed taken acked s x →
-        FitsLog D.Area m other log kept dropped trimmed taken acked after y }
+    ensures stays { (m : Setting) (node other : ℕ) (s : State) (x : Numbers) (after : State) (y : Numbers)
+        (log : Between D D.Area)
+        (kept : KeptRecords) (dropped trimmed taken acked : ℕ) → (other ≡ node → ⊥) → BesideLogs m node s x after y
+        → FitsLog D.Area m other log kept dropped trimmed taken acked s x
+        → FitsLog D.Area m other log kept dropped trimmed taken acked after y }
     ensures open { (m : Setting) (node : ℕ) (s after : State) (x : Numbers) → SameButOpen node s after →
         BesideLogs m node s x after x }
     ensures logged { (m : Setting) (node : ℕ) (s after : State) (x : Numbers) → SameButLog node s after →
@@ -145,8 +151,8 @@ pub(crate) fn other_journals<D: Area>()
         BesideLogs m node s x (record s { history = closed_by node thread s.history }) x }
 {}
 
-/// What a recovery leaves of the numbers is coherent, and each event of a store that stays up keeps it so, and keeps the disks
-/// fitting the state. A node that is halted stays so, and its tokens stay with it.
+/// What a recovery leaves of the numbers is coherent, and each event of a store that stays up keeps it so, and keeps
+/// the disks fitting the state. A node that is halted stays so, and its tokens stay with it.
 pub fn coherent_numbers()
     ensures fresh { (m : Setting) (earlier : List Transaction) (numbers : ℕ → ℕ) (pages : ℕ → ℕ → Page)
         (texts : ℕ → ℕ → PageText) → FitsDisks m (fresh m.geometry earlier Up) (recovered_disks numbers pages) →
@@ -164,35 +170,44 @@ pub fn coherent_numbers()
 /// Whatever a stop leaves of the area of a segment, each page is one that the numbers allow. A call in one segment, and
 /// the end of a page write, leave the others fitting.
 pub(crate) fn page_areas<D: Area>()
-    ensures images { (g : Shape) (segment page : ℕ) (pages : ItsPages D D.Area) (x : Numbers) (image : List ℕ) →
-        D.honest pages.area ≡ true → FitsArea D.Area g segment pages x → page < g.pages → IsImage (D.now pages.area) (D.dirty pages.area) image →
-        IsStored segment page image x }
-    ensures called { (m : Setting) (s : State) (segments : List (ItsPages D D.Area)) (k page calls : ℕ) (old new : ItsPages D D.Area) (x : Numbers) →
-        slice_get segments k ≡ Some old → FitsPages D.Area m segments x →
-        FitsArea D.Area m.geometry (k + 1) new (called m s x (k + 1) page calls) →
-        FitsPages D.Area m (slice_set segments k new) (called m s x (k + 1) page calls) }
-    ensures settled { (m : Setting) (s : State) (segments : List (ItsPages D D.Area)) (k page : ℕ) (old new : ItsPages D D.Area) (x : Numbers) →
-        slice_get segments k ≡ Some old → FitsPages D.Area m segments x →
-        FitsArea D.Area m.geometry (k + 1) new (page_settled x (k + 1) page) →
-        FitsPages D.Area m (slice_set segments k new) (page_settled x (k + 1) page) }
+    ensures images { (g : Shape) (segment page : ℕ) (pages : ItsPages D D.Area) (x : Numbers) (image : List ℕ)
+        → D.honest pages.area ≡ true → FitsArea D.Area g segment pages x → page < g.pages
+        → IsImage (D.now pages.area) (D.dirty pages.area) image
+        → IsStored segment page image x }
+    ensures called { (m : Setting) (s : State) (segments : List (ItsPages D D.Area)) (k page calls : ℕ)
+        (old new : ItsPages D D.Area) (x : Numbers)
+        → slice_get segments k ≡ Some old → FitsPages D.Area m segments x
+        → FitsArea D.Area m.geometry (k + 1) new (called m s x (k + 1) page calls)
+        → FitsPages D.Area m (slice_set segments k new) (called m s x (k + 1) page calls) }
+    ensures settled { (m : Setting) (s : State) (segments : List (ItsPages D D.Area)) (k page : ℕ)
+        (old new : ItsPages D D.Area) (x : Numbers)
+        → slice_get segments k ≡ Some old → FitsPages D.Area m segments x
+        → FitsArea D.Area m.geometry (k + 1) new (page_settled x (k + 1) page)
+        → FitsPages D.Area m (slice_set segments k new) (page_settled x (k + 1) page) }
 {}
 
-/// Whatever the areas of a store are: a recovery brings up a store of what was read, and what is up follows the machine of that
-/// content. A call leaves areas as honest as they were, and a stop of honest ones is one of the machine's.
+/// Whatever the areas of a store are: a recovery brings up a store of what was read, and what is up follows the machine
+/// of that content. A call leaves areas as honest as they were, and a stop of honest ones is one of the machine's.
 pub(crate) fn any_areas<D: Area>()
     ensures begins { (r : Recovering D) (up : ItsUp D D.Area) → ComesUp D.Area r up → BeginsAnew D.Area r.geometry up }
-    ensures runs { (m : Setting) (s : State) (x : Numbers) (up later : ItsUp D D.Area) (event : Event) (reply : Reply) (writing : Bool) →
-        is_plain event ≡ true → later.segments ≡ up.segments → SameDevices D.Area up.running later.running →
-        FollowsStep D.Area writing up.running event reply later.running → TellsWriting m x event writing →
-        FitsUp D.Area m up s x → LeadsTo m event s x reply (FitsUp D.Area m later) }
-    ensures honest { (up new : ItsUp D D.Area) (event : Event) (reply : Reply) → CallsArea D.Area (IsUpNow up) event reply (IsUpNow new) → HonestUp D.Area up → HonestUp D.Area new }
-    ensures anew { (new : Recovering D) → AreHonest D.Area new.areas → HaveLengths D.Area new.geometry new.areas → IsMerged D.Area new →
-        ((k : ℕ) (area : D) → slice_get new.areas k ≡ Some area → (at : ℕ) → D.dirty area at ≡ false) →
-        StartsAnew D.Area new.geometry new.steps (IsDownNow new) }
-    ensures steps { (old new : Store D D.Area) (up later : ItsUp D D.Area) (event : Event) (reply : Reply) → old.phase ≡ IsUpNow up →
-        new.phase ≡ IsUpNow later → (event ≡ Event.RecoverStep → ⊥) → StepsUp D.Area up event reply later → StepsTo D.Area old event reply new }
-    ensures stops { (m : Setting) (s : State) (x : Numbers) (choices : List (List Choice)) (old new : Standing D D.Area) → StopsAll D.Area old new →
-        FitsPhase D.Area m old s x → Leads D.Area m (Event.Stop choices) s x Reply.Down new }
+    ensures runs { (m : Setting) (s : State) (x : Numbers) (up later : ItsUp D D.Area) (event : Event) (reply : Reply)
+        (writing : Bool)
+        → is_plain event ≡ true → later.segments ≡ up.segments → SameDevices D.Area up.running later.running
+        → FollowsStep D.Area writing up.running event reply later.running → TellsWriting m x event writing
+        → FitsUp D.Area m up s x → LeadsTo m event s x reply (FitsUp D.Area m later) }
+    ensures honest { (up new : ItsUp D D.Area) (event : Event) (reply : Reply)
+        → CallsArea D.Area (IsUpNow up) event reply (IsUpNow new) → HonestUp D.Area up → HonestUp D.Area new }
+    ensures anew { (new : Recovering D) → AreHonest D.Area new.areas → HaveLengths D.Area new.geometry new.areas
+        → IsMerged D.Area new
+        → ((k : ℕ) (area : D) → slice_get new.areas k ≡ Some area → (at : ℕ) → D.dirty area at ≡ false)
+        → StartsAnew D.Area new.geometry new.steps (IsDownNow new) }
+    ensures steps { (old new : Store D D.Area) (up later : ItsUp D D.Area) (event : Event) (reply : Reply)
+        → old.phase ≡ IsUpNow up
+        → new.phase ≡ IsUpNow later → (event ≡ Event.RecoverStep → ⊥) → StepsUp D.Area up event reply later
+        → StepsTo D.Area old event reply new }
+    ensures stops { (m : Setting) (s : State) (x : Numbers) (choices : List (List Choice)) (old new : Standing D D.Area)
+        → StopsAll D.Area old new
+        → FitsPhase D.Area m old s x → Leads D.Area m (Event.Stop choices) s x Reply.Down new }
     ensures lives { (g : Shape) (at : Option Life) (old new : Standing D D.Area) (event : Event) (reply : Reply) →
         FitsLife D.Area g at old → Told D.Area old event reply new →
         (after : Option Life) × AnswersOne g at event reply after × FitsLife D.Area g after new }

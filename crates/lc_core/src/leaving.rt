@@ -9,9 +9,9 @@ use crate::desk::Desk;
 use lc_token::{Token, TokenFault};
 
 impl Desk {
-    /// Takes the token of a segment, from 1, away to be sent. The node reserved `reserved` records since the last recovery,
-    /// and `stable` of them are acknowledged; `writing` says whether a page of the segment is being written. It takes no
-    /// memory.
+    /// Takes the token of a segment, from 1, away to be sent. The node reserved `reserved` records since the last
+    /// recovery, and `stable` of them are acknowledged; `writing` says whether a page of the segment is being written.
+    /// It takes no memory.
     ///
     /// # Errors
     ///
@@ -31,7 +31,8 @@ impl Desk {
         ensures writing { (result ≡ Err TokenFault.Writing) → (writing ≡ true) }
         ensures unflushed { (result ≡ Err TokenFault.Unflushed) → (writing ≡ false) }
         ensures segment { IfOk result (λ token. token.segment ≡ segment) }
-        ensures names { IfErr result (λ fault. ForSome (token_refusal fault) (λ refusal. may_refuse_leave refusal ≡ true)) }
+        ensures names { IfErr result (λ fault. ForSome (token_refusal fault) (λ refusal. may_refuse_leave refusal
+            ≡ true)) }
         ensures leaves { Leaves segment writing reserved stable self.old result self.new }
     {
         let slot = &mut self.here.slots[segment as usize - 1];

@@ -1,5 +1,5 @@
-//! Where the plain machine leaves an answer open, numbers beside its state settle it, each in one way; what runs on all nodes
-//! is a run of it, and the types of the machine are handed on.
+//! Where the plain machine leaves an answer open, numbers beside its state settle it, each in one way; what runs on all
+//! nodes is a run of it, and the types of the machine are handed on.
 #![tactic(auto)]
 
 mod adopted_parts;

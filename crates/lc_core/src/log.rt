@@ -1,7 +1,9 @@
 //! A node's log between two steps.
 ghost use Rattle.std.specs.Prelude.{◌≡◌, ◌+◌, ◌*◌, ◌≤◌, ℕ, true, false, List, length, option_copied};
 ghost use Rattle.lc_record.specs.declared.record.Record.{Record};
-ghost use Rattle.lc_core.specs.Log.{Stands, HasReset, StepsTo, ResetsTo, MovesReset, HasRoom, KeepsRoom, MovesOn, CallsOnce, Seals, Unseals, area_of, taken_by, is_idle, is_sealed, is_emptied, is_failed};
+ghost use Rattle.lc_core.specs.Log.{Stands, HasReset, StepsTo, ResetsTo, MovesReset, HasRoom, KeepsRoom, MovesOn};
+ghost use Rattle.lc_core.specs.Log.{CallsOnce, Seals, Unseals, area_of, taken_by, is_idle, is_sealed, is_emptied};
+ghost use Rattle.lc_core.specs.Log.{is_failed};
 
 use lc_disk::Area;
 use lc_log::{Closing, Failed, Idle, Opened, Synced, Written};
@@ -28,8 +30,8 @@ pub(crate) enum Log<D: Area> {
 }
 
 impl<D: Area> Log<D> {
-    /// The next of the four steps of a flush, one call of the device; the first writes the group. A log that failed stays as it
-    /// is.
+    /// The next of the four steps of a flush, one call of the device; the first writes the group. A log that failed
+    /// stays as it is.
     pub(crate) fn flush_step(self, group: &Group) -> Log<D>
         requires room { HasRoom D.Area self (taken_by D.Area self (length group.now.words)) }
         requires free { is_sealed D.Area self ≡ false }
@@ -104,7 +106,8 @@ impl<D: Area> Log<D> {
 
     /// The log of a node that the fault of another device has halted. It makes no call.
     pub(crate) fn give_up(self) -> Log<D>
-        ensures stands { (steps : ℕ) (stable group : List Record) → Stands D.Area self steps stable group → Stands D.Area result steps stable group }
+        ensures stands { (steps : ℕ) (stable group : List Record) → Stands D.Area self steps stable group
+            → Stands D.Area result steps stable group }
         ensures reset { (steps : ℕ) → HasReset D.Area self steps → HasReset D.Area result steps }
         ensures area { area_of D.Area result ≡ area_of D.Area self }
         ensures failed { is_failed D.Area result ≡ true }

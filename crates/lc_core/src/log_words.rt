@@ -6,7 +6,8 @@ ghost use Rattle.lc_recover.specs.Recovery.{Recovering};
 ghost use Rattle.lc_core.specs.Faults.{SameDevices};
 ghost use Rattle.lc_core.specs.Geometries.{phase_geometry};
 ghost use Rattle.lc_core.specs.Log.{area_of};
-ghost use Rattle.lc_core.specs.LogWords.{IsLogRead, IsNodeKept, IsNodeRead, IsRead, ReadsLog, ReadsNone, StandsOn, has_failed, log_area, log_in};
+ghost use Rattle.lc_core.specs.LogWords.{IsLogRead, IsNodeKept, IsNodeRead, IsRead, ReadsLog, ReadsNone, StandsOn};
+ghost use Rattle.lc_core.specs.LogWords.{has_failed, log_area, log_in};
 ghost use Rattle.lc_core.specs.declared.node_state.NodeState.{NodeState as TheNode};
 ghost use Rattle.lc_core.specs.declared.world_phase.WorldPhase.TheVariants.{Down, Taken, Up};
 ghost use Rattle.lc_core.specs.declared.show_fault.ShowFault.TheVariants.{Unknown};
@@ -32,15 +33,18 @@ impl<D: Area + Drop> World<D> {
     ///
     /// `Unknown` where the store has no such node, and then nothing is read; `DeviceFault` where the read fails.
     pub fn log_words(&mut self, alloc: Global, node: u16) -> Result<Vec<u64>, ShowFault>
-        ensures unknown { log_area D.Area self.old.phase node ≡ None → (result ≡ Err Unknown) × ReadsNone D.Area node self.old.phase self.new.phase }
+        ensures unknown { log_area D.Area self.old.phase node ≡ None
+            → (result ≡ Err Unknown) × ReadsNone D.Area node self.old.phase self.new.phase }
         ensures read { (area : D) → log_area D.Area self.old.phase node ≡ Some area
             → (result ≢ Err Unknown) × ReadsLog D.Area node area self.old.phase self.new.phase (has_failed result) }
-        ensures words { IfOk result (λ words. (area : D) → log_area D.Area self.old.phase node ≡ Some area → AreWordsOf D.Area area words.items) }
+        ensures words { IfOk result (λ words. (area : D) → log_area D.Area self.old.phase node ≡ Some area
+            → AreWordsOf D.Area area words.items) }
         ensures records { IfOk result (λ words. (area : D) → log_area D.Area self.old.phase node ≡ Some area
             → ShowRecords D.Area self.old.phase node words.items) }
 
         // The nodes that have a log are those of the geometry.
-        ensures nodes { ForSome (phase_geometry D.Area self.old.phase) (λ g. is_some (log_area D.Area self.old.phase node) ≡ is_node g node) }
+        ensures nodes { ForSome (phase_geometry D.Area self.old.phase) (λ g.
+            is_some (log_area D.Area self.old.phase node) ≡ is_node g node) }
     {
         let bytes = self.phase.log_bytes(alloc, node)?;
         let mut words = words_in(alloc, bytes.as_slice())?;
@@ -52,16 +56,19 @@ impl<D: Area + Drop> World<D> {
 impl<D: Area + Drop> WorldPhase<D> {
     // All bytes of the log of a node.
     fn log_bytes(&mut self, alloc: Global, node: u16) -> Result<Vec<u8>, ShowFault>
-        ensures unknown { log_area D.Area self.old node ≡ None → (result ≡ Err Unknown) × ReadsNone D.Area node self.old self.new }
+        ensures unknown { log_area D.Area self.old node ≡ None
+            → (result ≡ Err Unknown) × ReadsNone D.Area node self.old self.new }
         ensures read { (area : D) → log_area D.Area self.old node ≡ Some area
             → (result ≢ Err Unknown) × ReadsLog D.Area node area self.old self.new (has_failed result) }
         ensures bytes { IfOk result (λ bytes. (area : D) → log_area D.Area self.old node ≡ Some area
             → D.honest area ≡ true → bytes.items ≡ D.now area) }
-        ensures fits { IfOk result (λ bytes. (up : Rising D D.Area) (area : D) → self.old ≡ Up up → log_in D.Area up.running.nodes.items node ≡ Some area
+        ensures fits { IfOk result (λ bytes. (up : Rising D D.Area) (area : D) → self.old ≡ Up up
+            → log_in D.Area up.running.nodes.items node ≡ Some area
             → D.honest area ≡ true → (k : ℕ) → slice_index_or (D.now area) k 0 < 256) }
         ensures down { (r : Recovering D) → self.new ≡ Down r
             → (was : Recovering D) × (self.old ≡ Down was) × (r ≡ record was { areas = r.areas }) }
-        ensures nodes { ForSome (phase_geometry D.Area self.old) (λ g. is_some (log_area D.Area self.old node) ≡ is_node g node) }
+        ensures nodes { ForSome (phase_geometry D.Area self.old) (λ g. is_some (log_area D.Area self.old node)
+            ≡ is_node g node) }
         ensures taken { self.new ≡ Taken → self.old ≡ Taken }
     {
         match self {
@@ -79,9 +86,11 @@ fn log_bytes_of<D: Area>(
     node: u16,
 ) -> Result<Vec<u8>, ShowFault>
     ensures same { recovery.new ≡ record recovery.old { areas = recovery.new.areas } }
-    ensures unknown { log_area D.Area (Down recovery.old) node ≡ None → (result ≡ Err Unknown) × (recovery.new ≡ recovery.old) }
+    ensures unknown { log_area D.Area (Down recovery.old) node ≡ None
+        → (result ≡ Err Unknown) × (recovery.new ≡ recovery.old) }
     ensures read { (area : D) → log_area D.Area (Down recovery.old) node ≡ Some area
-        → (result ≢ Err Unknown) × ReadsLog D.Area node area (Down recovery.old) (Down recovery.new) (has_failed result) }
+        → (result ≢ Err Unknown) × ReadsLog D.Area node area (Down recovery.old) (Down recovery.new)
+        (has_failed result) }
     ensures bytes { IfOk result (λ bytes. (area : D) → log_area D.Area (Down recovery.old) node ≡ Some area
         → D.honest area ≡ true → bytes.items ≡ D.now area) }
     ensures nodes { is_some (log_area D.Area (Down recovery.old) node) ≡ is_node recovery.old.geometry node }
@@ -99,9 +108,12 @@ impl<D: Area + Drop> Running<D> {
     // All bytes of the log of a node.
     fn log_bytes(&mut self, alloc: Global, node: u16) -> Result<Vec<u8>, ShowFault>
         ensures outside { slice_get self.old.nodes.items node ≡ None → (result ≡ Err Unknown) × (self.new ≡ self.old) }
-        ensures unknown { (its : TheNode D D.Area) → slice_get self.old.nodes.items node ≡ Some its → area_of D.Area its.journal.log ≡ None
-            → (result ≡ Err Unknown) × (kept : IsNodeKept D.Area node its self.old self.new) × (area_of D.Area kept.now.journal.log ≡ None) }
-        ensures read { (area : D) (its : TheNode D D.Area) → slice_get self.old.nodes.items node ≡ Some its → area_of D.Area its.journal.log ≡ Some area
+        ensures unknown { (its : TheNode D D.Area) → slice_get self.old.nodes.items node ≡ Some its
+            → area_of D.Area its.journal.log ≡ None
+            → (result ≡ Err Unknown) × (kept : IsNodeKept D.Area node its self.old self.new)
+            × (area_of D.Area kept.now.journal.log ≡ None) }
+        ensures read { (area : D) (its : TheNode D D.Area) → slice_get self.old.nodes.items node ≡ Some its
+            → area_of D.Area its.journal.log ≡ Some area
             → (result ≢ Err Unknown) × IsNodeRead D.Area node its area self.old self.new (has_failed result) }
         ensures devices { SameDevices D.Area self.old self.new }
         ensures bytes { IfOk result (λ bytes. (area : D) → log_in D.Area self.old.nodes.items node ≡ Some area

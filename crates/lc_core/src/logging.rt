@@ -21,7 +21,8 @@ impl<D: Area + Drop> Journal<D> {
         requires room { end_of_records D.Area self.old + length words.now ≤ self.old.group.room }
         requires free { is_sealed D.Area self.old.log ≡ false }
         ensures logs { IfOk result (λ number. Logs D.Area self.old words.now number self.new) }
-        ensures end { IfOk result (λ _. end_of_records D.Area self.new ≡ end_of_records D.Area self.old + length words.now) }
+        ensures end { IfOk result (λ _. end_of_records D.Area self.new
+            ≡ end_of_records D.Area self.old + length words.now) }
         ensures log { self.new.log ≡ self.old.log }
         ensures group { self.new.group ≡ self.old.group }
         ensures round { self.new.round ≡ self.old.round }

@@ -11,8 +11,8 @@ use crate::{Refusal, Reply};
 use lc_disk::Area;
 
 impl<D: Area + Drop> Running<D> {
-    /// The token of a segment leaves a node: it is on its way then. `writing` says whether a page of the segment is being
-    /// written.
+    /// The token of a segment leaves a node: it is on its way then. `writing` says whether a page of the segment is
+    /// being written.
     pub(crate) fn leave(&mut self, node: u16, segment: u32, writing: bool) -> Reply
         requires known { is_known self.old.geometry (Leave node segment) ≡ true }
         ensures follows { FollowsLeaving D.Area node segment writing self.old result self.new }

@@ -12,8 +12,8 @@ use lc_log::Idle;
 use lc_trunc::KnownClean;
 use std::alloc::{AllocError, Global};
 
-/// What a node of a store is made of: its log and its round; its records that no reset has dropped, all of them closed, and how
-/// many of all its records are stable; and how clean it has seen the segments. This project's own.
+/// What a node of a store is made of. It has its log and its round, its records that no reset has dropped, all of them
+/// closed, and how many of all its records are stable. It has how clean it has seen the segments too.
 #[derive(Drop)]
 pub(crate) struct NodePiece<D: Area> {
     pub(crate) log: Idle<D>,
@@ -40,11 +40,15 @@ impl<D: Area + Drop> NodePiece<D> {
         ensures log { IfOk result (λ piece. piece.log ≡ log) }
         ensures round { IfOk result (λ piece. piece.round ≡ round) }
         ensures known { IfOk result (λ piece. piece.known ≡ known) }
-        ensures records { IfOk result (λ piece. (front behind : List Record) → IsLogText stable.now front → IsLogText staged.now behind →
-            piece.records ≡ record { before = dropped; records = map closed_record (front ++ behind) }) }
-        ensures stable { IfOk result (λ piece. (front : List Record) → IsLogText stable.now front → piece.stable ≡ dropped + length front) }
-        ensures fits { IfOk result (λ piece. (words : ℕ) (front behind : List Record) → AreSpelled stable.now front → AreSpelled staged.now behind →
-            log.end ≡ length stable.now → log.end + length staged.now ≤ words → length (D.now log.area) ≡ 8 * (words + 1) → round < 2 ^ 48 → IsNodePiece D.Area words piece) }
+        ensures records { IfOk result (λ piece. (front behind : List Record) → IsLogText stable.now front
+            → IsLogText staged.now behind
+            → piece.records ≡ record { before = dropped; records = map closed_record (front ++ behind) }) }
+        ensures stable { IfOk result (λ piece. (front : List Record) → IsLogText stable.now front
+            → piece.stable ≡ dropped + length front) }
+        ensures fits { IfOk result (λ piece. (words : ℕ) (front behind : List Record) → AreSpelled stable.now front
+            → AreSpelled staged.now behind
+            → log.end ≡ length stable.now → log.end + length staged.now ≤ words
+            → length (D.now log.area) ≡ 8 * (words + 1) → round < 2 ^ 48 → IsNodePiece D.Area words piece) }
     {
         let mut records = Records::behind(alloc, dropped);
         records.keep_all(stable)?;

@@ -1,11 +1,13 @@
 //! One node.
-ghost use Rattle.std.specs.Prelude.{◌≡◌, ◌-◌, ◌+◌, ◌<◌, ◌≤◌, ◌^◌, ℕ, true, false, vec_len, slice_get, Some, IsSome, Err, IfOk, OnErr, IfErr};
+ghost use Rattle.std.specs.Prelude.{◌≡◌, ◌-◌, ◌+◌, ◌<◌, ◌≤◌, ◌^◌, ℕ, true, false, vec_len, slice_get, Some, IsSome};
+ghost use Rattle.std.specs.Prelude.{Err, IfOk, OnErr, IfErr};
 ghost use Rattle.lc_core.specs.Log.{is_failed, is_sealed};
 ghost use Rattle.lc_core.specs.declared.segment_copy.SegmentCopy.{SegmentCopy};
 ghost use Rattle.lc_model.specs.declared.event.Event.TheVariants.{Close, FlushStep, ResetStep};
 ghost use Rattle.lc_core.specs.CallReplies.{tells_but, tells_call};
 ghost use Rattle.lc_core.specs.FaultReplies.{TellsFault};
-ghost use Rattle.lc_core.specs.MayReply.{done_or, is_turn, may_flush, may_refuse_arrive, may_refuse_leave, may_reserve, or_fault};
+ghost use Rattle.lc_core.specs.MayReply.{done_or, is_turn, may_flush, may_refuse_arrive, may_refuse_leave, may_reserve};
+ghost use Rattle.lc_core.specs.MayReply.{or_fault};
 ghost use Rattle.lc_model.specs.Machine.{may_reset};
 
 use crate::desk::Desk;
@@ -28,7 +30,8 @@ pub(crate) struct NodeState<D: Area> {
 }
 
 impl<D: Area + Drop> NodeState<D> {
-    ghost use Rattle.lc_core.specs.NodeState.{SeesStanding, FollowsArrive, FollowsLeave, FollowsNode, FollowsReserve, HasSameRoom, StillFitsNode, WantsPlace};
+    ghost use Rattle.lc_core.specs.NodeState.{SeesStanding, FollowsArrive, FollowsLeave, FollowsNode, FollowsReserve};
+    ghost use Rattle.lc_core.specs.NodeState.{HasSameRoom, StillFitsNode, WantsPlace};
 
     /// A thread's open transaction gets its place in the log of this node, which a reset may have sealed; one that set
     /// nothing is over. It takes memory only for a record for which there is room.
@@ -40,7 +43,8 @@ impl<D: Area + Drop> NodeState<D> {
     ) -> Result<Reply, AllocError>
         requires seat { thread < vec_len self.old.desk.seats }
         requires node { node ≤ 7 }
-        ensures follows { IfOk result (λ reply. FollowsReserve D.Area node thread (is_sealed D.Area self.old.journal.log) self.old reply self.new) }
+        ensures follows { IfOk result (λ reply.
+            FollowsReserve D.Area node thread (is_sealed D.Area self.old.journal.log) self.old reply self.new) }
         ensures memory { OnErr result (WantsPlace D.Area node thread (is_sealed D.Area self.old.journal.log) self.old) }
         ensures err { OnErr result (StillFitsNode D.Area self.old self.new) }
         ensures whole { HasSameRoom D.Area self.old self.new }
@@ -68,7 +72,8 @@ impl<D: Area + Drop> NodeState<D> {
         }
     }
 
-    /// A thread's reservation is closed: its record is counted, may be flushed, and its locks are free. It takes no memory.
+    /// A thread's reservation is closed: its record is counted, may be flushed, and its locks are free. It takes no
+    /// memory.
     pub(crate) fn close(&mut self, thread: u16) -> Reply
         requires seat { thread < vec_len self.old.desk.seats }
         ensures follows { (node : ℕ) → FollowsNode D.Area node (Close node thread) self.old result self.new }
@@ -136,8 +141,8 @@ impl<D: Area + Drop> NodeState<D> {
     ///
     /// # Errors
     ///
-    /// `OutOfTurn` where a token of the segment stands here; `Behind` where the node has not applied all that the token has
-    /// seen. The token is handed back, and nothing has changed.
+    /// `OutOfTurn` where a token of the segment stands here; `Behind` where the node has not applied all that the token
+    /// has seen. The token is handed back, and nothing has changed.
     pub(crate) fn arrive(&mut self, token: Token) -> Result<(), (Token, Refusal)>
         requires first { 1 ≤ token.segment }
         requires slot { token.segment ≤ vec_len self.old.desk.here.slots }
@@ -145,7 +150,8 @@ impl<D: Area + Drop> NodeState<D> {
         ensures whole { HasSameRoom D.Area self.old self.new }
         ensures names { IfErr result (λ back. may_refuse_arrive back.1 ≡ true) }
         ensures log { self.new.journal.log ≡ self.old.journal.log }
-        ensures stands { (slot : SegmentCopy) → slice_get self.old.desk.here.slots.items (token.segment - 1) ≡ Some slot → IsSome slot.token.token
+        ensures stands { (slot : SegmentCopy) → slice_get self.old.desk.here.slots.items (token.segment - 1) ≡ Some slot
+            → IsSome slot.token.token
             → (result ≡ Err (token, Refusal.OutOfTurn)) × (self.new ≡ self.old) }
     {
         let segment = token.segment();
@@ -169,7 +175,8 @@ impl<D: Area + Drop> NodeState<D> {
     pub(crate) fn see(&mut self, segment: u32)
         requires first { 1 ≤ segment }
         requires slot { segment ≤ vec_len self.old.desk.here.slots }
-        ensures sees { SeesStanding (slice_get self.old.desk.here.slots.items (segment - 1)) self.old.known self.new.known }
+        ensures sees { SeesStanding (slice_get self.old.desk.here.slots.items (segment - 1)) self.old.known
+            self.new.known }
         ensures desk { self.new.desk ≡ self.old.desk }
         ensures journal { self.new.journal ≡ self.old.journal }
     {

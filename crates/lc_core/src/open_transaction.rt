@@ -11,8 +11,8 @@ use lc_disk::Area;
 use lc_tx::Tx;
 
 impl<D: Area + Drop> World<D> {
-    /// The transaction that a thread of a node has open: begun, and neither reserved nor over. None where the store is down,
-    /// or has no such node or thread. It changes nothing and takes no memory.
+    /// The transaction that a thread of a node has open: begun, and neither reserved nor over. None where the store is
+    /// down, or has no such node or thread. It changes nothing and takes no memory.
     pub fn open_transaction(&self, node: u16, thread: u16) -> Option<&Tx>
         ensures { open_in result ≡ open_transaction D.Area self.now.phase node thread }
     {

@@ -11,8 +11,9 @@ use lc_rest::merge_records;
 use std::alloc::{AllocError, Global};
 
 impl ReadParts {
-    /// The order in which all records follow one another: the nodes, each as often as its turn comes. Where at some turn no node's
-    /// next record has the next numbers, the least node that has a record left. It takes memory for the numbers, and for the order.
+    /// The order in which all records follow one another: the nodes, each as often as its turn comes. Where at some
+    /// turn no node's next record has the next numbers, the least node that has a record left. It takes memory for the
+    /// numbers, and for the order.
     pub(crate) fn order(
         &self,
         alloc: Global,
@@ -20,9 +21,11 @@ impl ReadParts {
     ) -> Result<Result<Vec<usize>, u16>, AllocError>
         requires numbers { numbers.now ≡ first_numbers self.now }
         requires whole { AreWhole self.now.logs.items }
-        requires own { (n : ℕ) → n < self.now.geometry.nodes → All (IsOwn self.now.geometry n) (slice_index_or (logs_of self.now.logs.items) n []) }
+        requires own { (n : ℕ) → n < self.now.geometry.nodes
+            → All (IsOwn self.now.geometry n) (slice_index_or (logs_of self.now.logs.items) n []) }
         ensures merged { IfOk result (λ tested. IfOk tested (λ order. AreMerged (tests_of self.now order.items))) }
-        ensures stuck { IfOk result (λ tested. IfErr tested (λ node. (node < self.now.geometry.nodes) × ((turns : List ℕ) × IsStuck (logs_of self.now.logs.items) (first_numbers self.now) turns node))) }
+        ensures stuck { IfOk result (λ tested. IfErr tested (λ node. (node < self.now.geometry.nodes)
+            × ((turns : List ℕ) × IsStuck (logs_of self.now.logs.items) (first_numbers self.now) turns node))) }
     {
         let mut behind = numbers.to_vec(alloc)?;
         match merge_records(alloc, behind.as_mut_slice(), self.logs.as_slice())? {

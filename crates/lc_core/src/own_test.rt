@@ -11,12 +11,14 @@ use lc_rest::{keeps_known, keeps_own};
 use lc_trunc::KnownClean;
 
 impl ReadParts {
-    /// The first node whose records name another or lie outside of the segments, or which knows more as clean than the tokens say.
-    /// It takes no memory.
+    /// The first node whose records name another or lie outside of the segments, or which knows more as clean than the
+    /// tokens say. It takes no memory.
     pub(crate) fn foreign_node<D: Area>(&self, pieces: &[NodePiece<D>]) -> Option<u16>
         requires { length pieces.now ≡ self.now.geometry.nodes }
-        ensures none { IfNone result ((n : ℕ) → n < self.now.geometry.nodes → KeepsAt self.now (map (λ (piece : ThePiece D D.Area). piece.known) pieces.now) n) }
-        ensures some { IfSome result (λ node. (node < self.now.geometry.nodes) × IsFirst (KeepsAt self.now (map (λ (piece : ThePiece D D.Area). piece.known) pieces.now)) 0 node) }
+        ensures none { IfNone result ((n : ℕ) → n < self.now.geometry.nodes
+            → KeepsAt self.now (map (λ (piece : ThePiece D D.Area). piece.known) pieces.now) n) }
+        ensures some { IfSome result (λ node. (node < self.now.geometry.nodes)
+            × IsFirst (KeepsAt self.now (map (λ (piece : ThePiece D D.Area). piece.known) pieces.now)) 0 node) }
     {
         for node in 0..self.geometry.nodes {
             if !self.keeps_node(node, &pieces[node as usize].known) {
@@ -26,7 +28,8 @@ impl ReadParts {
         None
     }
 
-    // Whether the records of a node, which knows so much as clean, are its own, and it knows no more than the tokens say.
+    // Whether the records of a node, which knows so much as clean, are its own, and it knows no more than the tokens
+    // say.
     fn keeps_node(&self, node: u16, known: &KnownClean) -> bool
         requires { node < self.now.geometry.nodes }
         ensures { IsTrue result ↔ KeepsNode self.now known.now node }

@@ -25,19 +25,21 @@ impl<D: Area> Pages<D> {
     /// Whether a write of some page has begun, and is not over.
     pub(crate) fn is_writing(&self) -> bool
         ensures states { result ≡ list_any is_begun self.now.writes.items }
-        ensures numbers { (m : Setting) (segment : ℕ) (x : Numbers) → FitsArea D.Area m.geometry segment self.now x → result ≡ is_writing m x segment }
+        ensures numbers { (m : Setting) (segment : ℕ) (x : Numbers) → FitsArea D.Area m.geometry segment self.now x
+            → result ≡ is_writing m x segment }
     {
         self.begun > 0
     }
 
-    /// Makes the first call of a write of a page that is at rest. After a fault, which is one of the device, the page is
-    /// as it was, and is not written any more.
+    /// Makes the first call of a write of a page that is at rest. After a fault, which is one of the device, the page
+    /// is as it was, and is not written any more.
     pub(crate) fn begin(&mut self, write: PageWrite<Begun>) -> Result<(), PageFault>
         requires page { write.draft.page < vec_len self.old.writes }
         requires rests { slice_get self.old.writes.items write.draft.page ≡ Some AtRest }
         ensures follows { FollowsBegin D.Area self.old write.draft write.state.gate self.new }
         ensures states { BeginsIn self.old.writes.items write.draft (is_ok result) self.new.writes.items }
-        ensures call { Writes D.Area write.draft.page (slot_at write.draft.page write.draft.slot) (closing_bytes write.state.gate)
+        ensures call { Writes D.Area write.draft.page (slot_at write.draft.page write.draft.slot)
+            (closing_bytes write.state.gate)
             self.old.area self.new.area (is_ok result) }
         ensures device { IsOneCall D.Area (is_ok result) self.old.area self.new.area }
         ensures fault { IfErr result (λ f. f ≡ PageFault.DeviceFault) }

@@ -3,8 +3,8 @@ ghost use Rattle.std.specs.Prelude.{◌≤◌, ◌<◌};
 
 use crate::Event;
 
-/// Where a truncation is among the pages of a node: how many segments there are, and pages each; the place of the segment, from
-/// 0; its round, from 0; and the page that is looked at next.
+/// Where a truncation is among the pages of a node: how many segments there are, and pages each; the place of the
+/// segment, from 0; its round, from 0; and the page that is looked at next.
 #[derive(Clone, Copy)]
 pub(crate) struct PageCursor {
     pub(crate) segments: u32,

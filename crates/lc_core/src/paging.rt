@@ -20,8 +20,8 @@ impl<D: Area + Drop> NodeState<D> {
     ghost use Rattle.lc_core.specs.NodeState.{HasSameRoom};
     ghost use Rattle.lc_core.specs.Paging.{FollowsPage};
 
-    /// One of the six device calls of a write of a page of a segment, from 1, where the segment's token stands here. The first
-    /// takes the page as it is. It takes no memory.
+    /// One of the six device calls of a write of a page of a segment, from 1, where the segment's token stands here.
+    /// The first takes the page as it is. It takes no memory.
     pub(crate) fn page_step(&mut self, segment: u32, page: u32, pages: &mut Pages<D>) -> Reply
         requires first { 1 ≤ segment }
         requires slot { segment ≤ vec_len self.old.desk.here.slots }
@@ -53,7 +53,8 @@ impl<D: Area + Drop> NodeState<D> {
         requires first { 1 ≤ segment }
         requires slot { segment ≤ vec_len self.old.desk.here.slots }
         requires page { page < vec_len pages.old.writes }
-        requires here { (slot : SegmentCopy) → slice_get self.old.desk.here.slots.items (segment - 1) ≡ Some slot → IsSome slot.token.token }
+        requires here { (slot : SegmentCopy) → slice_get self.old.desk.here.slots.items (segment - 1) ≡ Some slot
+            → IsSome slot.token.token }
         requires rests { slice_get pages.old.writes.items page ≡ Some Rests }
         ensures follows { FollowsPage D.Area segment page self.old pages.old result self.new pages.new }
         ensures names { or_fault may_page result ≡ true }
@@ -86,7 +87,8 @@ impl<D: Area + Drop> NodeState<D> {
         requires first { 1 ≤ segment }
         requires slot { segment ≤ vec_len self.old.desk.here.slots }
         requires page { page < vec_len pages.old.writes }
-        requires here { (slot : SegmentCopy) → slice_get self.old.desk.here.slots.items (segment - 1) ≡ Some slot → IsSome slot.token.token }
+        requires here { (slot : SegmentCopy) → slice_get self.old.desk.here.slots.items (segment - 1) ≡ Some slot
+            → IsSome slot.token.token }
         requires begun { (write : Writing) × (slice_get pages.old.writes.items page ≡ Some (IsUnderWay write)) }
         ensures follows { FollowsPage D.Area segment page self.old pages.old result self.new pages.new }
         ensures names { or_fault may_page result ≡ true }

@@ -14,8 +14,8 @@ use std::alloc::{AllocError, Global};
 use std::mem;
 
 impl Desk {
-    /// The record of a thread's open transaction at the end of the node's log, if there is room for it. It takes memory only
-    /// for the record's words, and only where that of the desk, which it uses up, has no room for them.
+    /// The record of a thread's open transaction at the end of the node's log, if there is room for it. It takes memory
+    /// only for the record's words, and only where that of the desk, which it uses up, has no room for them.
     pub(crate) fn prepare(
         &mut self,
         alloc: Global,

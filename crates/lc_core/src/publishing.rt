@@ -34,8 +34,8 @@ impl<D: Area + Drop> Journal<D> {
         }
     }
 
-    /// Lays the bytes that the record of this number, from 1, has for a segment over those of an image; none where a peer
-    /// finds no record. It takes no memory, and copies no word.
+    /// Lays the bytes that the record of this number, from 1, has for a segment over those of an image; none where a
+    /// peer finds no record. It takes no memory, and copies no word.
     pub(crate) fn put_on(&self, number: u64, segment: u32, image: &mut Image)
         ensures lays { LaysFound D.Area self.now number segment image.old.bytes.items image.new.bytes.items }
         ensures len { length image.new.bytes.items ≡ length image.old.bytes.items }

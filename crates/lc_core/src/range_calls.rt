@@ -21,7 +21,8 @@ impl<D: Area + Drop> NodeState<D> {
         len: u32,
     ) -> Result<Reply, AllocError>
         requires seat { thread < vec_len self.old.desk.seats }
-        ensures { (node : ℕ) → StepsNode D.Area node (SetRange node thread segment offset len) self.old result self.new }
+        ensures { (node : ℕ) → StepsNode D.Area node
+            (SetRange node thread segment offset len) self.old result self.new }
     {
         self.desk.set_range(thread, segment, offset, len)
     }

@@ -1,5 +1,6 @@
 //! How a transaction reads, layer by layer of a store.
-ghost use Rattle.std.specs.Prelude.{◌≡◌, ◌↔◌, ◌+◌, ◌≤◌, ◌<◌, ◌||◌, ℕ, IfErr, IfOk, IsTrue, drop, length, take, true, vec_len};
+ghost use Rattle.std.specs.Prelude.{◌≡◌, ◌↔◌, ◌+◌, ◌≤◌, ◌<◌, ◌||◌, ℕ, IfErr, IfOk, IsTrue, drop, length, take, true};
+ghost use Rattle.std.specs.Prelude.{vec_len};
 ghost use Rattle.lc_record.specs.Transaction.{is_member};
 ghost use Rattle.lc_model.specs.declared.event.Event.TheVariants.{Read};
 ghost use Rattle.lc_model.specs.declared.reply.Reply.TheVariants.{Bytes, Refused};
@@ -72,8 +73,10 @@ impl Desk {
         len: usize,
     ) -> Result<&[u8], Refusal>
         requires seat { thread < vec_len self.now.seats }
-        ensures bytes { IfOk result (λ bytes. (node : ℕ) → FollowsOpen node self.now (Read node thread segment offset len) (Bytes bytes.now) self.now) }
-        ensures refused { IfErr result (λ refusal. (node : ℕ) → FollowsOpen node self.now (Read node thread segment offset len) (Refused refusal) self.now) }
+        ensures bytes { IfOk result (λ bytes. (node : ℕ)
+            → FollowsOpen node self.now (Read node thread segment offset len) (Bytes bytes.now) self.now) }
+        ensures refused { IfErr result (λ refusal. (node : ℕ)
+            → FollowsOpen node self.now (Read node thread segment offset len) (Refused refusal) self.now) }
         ensures len { IfOk result (λ bytes. length bytes.now ≡ len) }
         ensures names { IfErr result (λ refusal. may_refuse_read refusal ≡ true) }
     {
@@ -101,8 +104,10 @@ impl<D: Area + Drop> Running<D> {
         offset: u32,
         len: usize,
     ) -> Result<&[u8], Refusal>
-        ensures bytes { IfOk result (λ bytes. StepsRunning D.Area self.now (Read node thread segment offset len) (Bytes bytes.now) self.now) }
-        ensures refused { IfErr result (λ refusal. StepsRunning D.Area self.now (Read node thread segment offset len) (Refused refusal) self.now) }
+        ensures bytes { IfOk result (λ bytes.
+            StepsRunning D.Area self.now (Read node thread segment offset len) (Bytes bytes.now) self.now) }
+        ensures refused { IfErr result (λ refusal.
+            StepsRunning D.Area self.now (Read node thread segment offset len) (Refused refusal) self.now) }
         ensures len { IfOk result (λ bytes. length bytes.now ≡ len) }
     {
         if let Some(refusal) = self.place_refusal(node, thread, segment) {
@@ -124,8 +129,10 @@ impl<D: Area + Drop> Up<D> {
         offset: u32,
         len: usize,
     ) -> Result<&[u8], Refusal>
-        ensures bytes { IfOk result (λ bytes. StepsUp D.Area self.now (Read node thread segment offset len) (Bytes bytes.now) self.now) }
-        ensures refused { IfErr result (λ refusal. StepsUp D.Area self.now (Read node thread segment offset len) (Refused refusal) self.now) }
+        ensures bytes { IfOk result (λ bytes.
+            StepsUp D.Area self.now (Read node thread segment offset len) (Bytes bytes.now) self.now) }
+        ensures refused { IfErr result (λ refusal.
+            StepsUp D.Area self.now (Read node thread segment offset len) (Refused refusal) self.now) }
         ensures len { IfOk result (λ bytes. length bytes.now ≡ len) }
     {
         self.running.bytes(node, thread, segment, offset, len)

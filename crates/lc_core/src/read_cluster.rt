@@ -22,8 +22,8 @@ use lc_disk::Area;
 use lc_rest::{AdoptFault, Parts};
 use std::alloc::Global;
 
-/// A cluster at rest as it is read: what its tests look at, with the images of its nodes; and what a store is made of: the pieces
-/// of its nodes, and the areas of its segments, in room for those of the logs too. This project's own.
+/// A cluster at rest as it is read: what its tests look at, with the images of its nodes, and what a store is made of.
+/// Of the latter there are the pieces of its nodes, and the areas of its segments, in room for those of the logs too.
 #[derive(Drop)]
 pub(crate) struct ReadCluster<D: Area> {
     pub(crate) read: ReadParts,
@@ -41,8 +41,8 @@ pub(crate) struct ReadCluster<D: Area> {
 impl<D: Area + Drop> ReadCluster<D> {
     ghost use Rattle.lc_core.specs.Cluster.{IsBuilt, IsReadCluster, knowns_of};
 
-    /// What is read of these parts. It takes memory for their records, for what their areas hold, and for the bytes of their pages,
-    /// and reads each page area once.
+    /// What is read of these parts. It takes memory for their records, for what their areas hold, and for the bytes of
+    /// their pages, and reads each page area once.
     ///
     /// # Errors
     ///
@@ -97,8 +97,11 @@ impl<D: Area + Drop> ReadCluster<D> {
     pub(crate) fn build(self, alloc: Global, room: WorldRoom<D>) -> Result<Up<D>, AdoptFault>
         requires geometry { self.read.geometry ≡ room.geometry }
         requires whole { AreWhole self.read.logs.items }
-        ensures built { IfOk result (λ up. (turns : List ℕ) × PassesIn self.read (knowns_of D.Area self.pieces.items) self.images.items turns × IsBuilt D.Area self turns up) }
-        ensures mismatch { (part : ThePart) → result ≡ Err (Mismatch part) → FailsIn self.read (knowns_of D.Area self.pieces.items) self.images.items part }
+        ensures built { IfOk result (λ up. (turns : List ℕ)
+            × PassesIn self.read (knowns_of D.Area self.pieces.items) self.images.items turns
+            × IsBuilt D.Area self turns up) }
+        ensures mismatch { (part : ThePart) → result ≡ Err (Mismatch part)
+            → FailsIn self.read (knowns_of D.Area self.pieces.items) self.images.items part }
         ensures device { result ≡ Err Failed → ⊥ }
     {
         let ReadCluster {

@@ -12,8 +12,8 @@ use lc_record::Record;
 use lc_rest::NodePart;
 use std::alloc::{AllocError, Global};
 
-/// What is read of a node of a cluster at rest: the piece of it that a store is made of; its records, in the order of its log,
-/// and how many of them are stable; and its images of the segments. This project's own.
+/// What is read of a node of a cluster at rest. It has the piece of it that a store is made of, and its images of the
+/// segments. It has its records too, in the order of its log, and how many of them are stable.
 #[derive(Drop)]
 pub(crate) struct ReadNode<D: Area> {
     pub(crate) piece: NodePiece<D>,

@@ -13,8 +13,8 @@ use lc_record::Record;
 use lc_rest::NodePart;
 use std::alloc::{AllocError, Global};
 
-/// What is read of the nodes of a cluster at rest, from node 0 on: the pieces of them that a store is made of; their records, each
-/// node's in the order of its log, and how many of these are stable; and their images. This project's own.
+/// What is read of the nodes of a cluster at rest, from node 0 on. It has the pieces of them that a store is made of,
+/// and their images. It has their records too, each node's in the order of its log, and how many of these are stable.
 #[derive(Drop)]
 pub(crate) struct ReadNodes<D: Area> {
     pub(crate) pieces: Vec<NodePiece<D>>,
@@ -29,7 +29,8 @@ impl<D: Area + Drop> ReadNodes<D> {
         alloc: Global,
         mut parts: Vec<NodePart<D>>,
     ) -> Result<ReadNodes<D>, AllocError>
-        ensures { IfOk result (λ nodes. (g : Geometry) → ((n : ℕ) (part : ThePart D D.Area) → slice_get parts.items n ≡ Some part → KeepsLog D.Area g part)
+        ensures { IfOk result (λ nodes. (g : Geometry)
+            → ((n : ℕ) (part : ThePart D D.Area) → slice_get parts.items n ≡ Some part → KeepsLog D.Area g part)
             → AreReadNodes D.Area g.words parts.items nodes) }
     {
         let mut nodes = ReadNodes {

@@ -6,9 +6,9 @@ use lc_record::{Geometry, Record};
 use lc_rest::Holder;
 use lc_token::Token;
 
-/// What is read of the parts of a cluster at rest, but for its images: of each node, from node 0 on, its records, in the order of
-/// its log, and how many of them are stable; and of each segment, from segment 1 on, its token and where that is, what its area
-/// holds, and the bytes of its pages. This project's own.
+/// What is read of the parts of a cluster at rest, but for its images. Of each node, from node 0 on, it has the
+/// records, in the order of its log, and how many of them are stable. Of each segment, from segment 1 on, it has the
+/// token and where that is, what its area holds, and the bytes of its pages.
 #[derive(Drop)]
 pub(crate) struct ReadParts {
     pub(crate) geometry: Geometry,

@@ -7,8 +7,8 @@ use lc_rest::{Holder, SegmentPart};
 use lc_token::Token;
 use std::alloc::{AllocError, Global};
 
-/// What is handed over of the segments of a cluster at rest, from segment 1 on: their tokens, where these are, and the areas of
-/// their pages. This project's own.
+/// What is handed over of the segments of a cluster at rest, from segment 1 on: their tokens, where these are, and the
+/// areas of their pages.
 #[derive(Drop)]
 pub(crate) struct ReadSegments<D: Area> {
     pub(crate) tokens: Vec<Token>,
@@ -23,9 +23,12 @@ impl<D: Area + Drop> ReadSegments<D> {
         mut parts: Vec<SegmentPart<D>>,
         room: usize,
     ) -> Result<ReadSegments<D>, AllocError>
-        ensures tokens { IfOk result (λ segments. segments.tokens.items ≡ map (λ (part : ThePart D). part.token) parts.items) }
-        ensures holders { IfOk result (λ segments. segments.holders.items ≡ map (λ (part : ThePart D). part.holder) parts.items) }
-        ensures areas { IfOk result (λ segments. segments.areas.items ≡ map (λ (part : ThePart D). part.area) parts.items) }
+        ensures tokens { IfOk result (λ segments. segments.tokens.items
+            ≡ map (λ (part : ThePart D). part.token) parts.items) }
+        ensures holders { IfOk result (λ segments. segments.holders.items
+            ≡ map (λ (part : ThePart D). part.holder) parts.items) }
+        ensures areas { IfOk result (λ segments. segments.areas.items
+            ≡ map (λ (part : ThePart D). part.area) parts.items) }
         ensures room { IfOk result (λ segments. room ≤ vec_capacity segments.areas) }
     {
         let mut tokens = Vec::with_capacity(alloc, parts.len())?;

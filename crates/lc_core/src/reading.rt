@@ -13,7 +13,8 @@ use lc_record::Items;
 use std::alloc::{AllocError, Global};
 
 impl Desk {
-    /// A thread reads bytes of a segment that it locked. It takes memory only where it is not refused; no bytes take none.
+    /// A thread reads bytes of a segment that it locked. It takes memory only where it is not refused; no bytes take
+    /// none.
     pub(crate) fn read(
         &mut self,
         alloc: Global,
@@ -23,7 +24,8 @@ impl Desk {
         len: u32,
     ) -> Result<Reply, AllocError>
         requires seat { thread < vec_len self.old.seats }
-        ensures follows { IfOk result (λ reply. (node : ℕ) → FollowsOpen node self.old (Read node thread segment offset len) reply self.new) }
+        ensures follows { IfOk result (λ reply. (node : ℕ)
+            → FollowsOpen node self.old (Read node thread segment offset len) reply self.new) }
         ensures beside { the_images.IsSameBeside self.old.here self.new.here }
         ensures err { OnErr result (StillFits self.old self.new) }
         ensures memory { OnErr result (MayReadSome thread segment offset len self.old) }

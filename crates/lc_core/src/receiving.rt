@@ -11,9 +11,9 @@ use lc_token::Received;
 use std::alloc::{AllocError, Global};
 
 impl Desk {
-    /// Receives a record that a peer has published and that has a lock on a segment, from 1. Its part is put on the image
-    /// once all before it are there; where the token stands here, none is missing. It takes memory only for a part that
-    /// is not known.
+    /// Receives a record that a peer has published and that has a lock on a segment, from 1. Its part is put on the
+    /// image once all before it are there; where the token stands here, none is missing. It takes memory only for a
+    /// part that is not known.
     pub(crate) fn receive(
         &mut self,
         alloc: Global,
@@ -24,7 +24,8 @@ impl Desk {
         requires slot { segment ≤ vec_len self.old.here.slots }
         requires lock { IsSome (part_of segment «record».now) }
         ensures receives { IfOk result (λ answer. FollowsReceive segment «record».now self.old answer self.new) }
-        ensures memory { OnErr result (ForSome (slice_get self.old.here.slots.items (segment - 1)) (λ slot. IsNew segment «record».now slot)) }
+        ensures memory { OnErr result (ForSome (slice_get self.old.here.slots.items (segment - 1)) (λ slot.
+            IsNew segment «record».now slot)) }
         ensures err { OnErr result (IsAsBefore self.old self.new) }
         ensures seats { vec_len self.new.seats ≡ vec_len self.old.seats }
         ensures slots { vec_len self.new.here.slots ≡ vec_len self.old.here.slots }

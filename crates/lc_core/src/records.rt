@@ -1,7 +1,9 @@
 //! The records that a node reserved, in the order of their reservations.
-ghost use Rattle.std.specs.Prelude.{◌≡◌, ◌+◌, ◌-◌, ◌<◌, ◌≤◌, ◌^◌, ℕ, List, [], ◌∷◌, ◌++◌, map, length, take, drop, true, false, Some, IfOk, OnErr, All, slice_get, count_by};
+ghost use Rattle.std.specs.Prelude.{◌≡◌, ◌+◌, ◌-◌, ◌<◌, ◌≤◌, ◌^◌, ℕ, List, [], ◌∷◌, ◌++◌, map, length, take, drop};
+ghost use Rattle.std.specs.Prelude.{true, false, Some, IfOk, OnErr, All, slice_get, count_by};
 ghost use Rattle.lc_model.specs.History.{leading};
-ghost use Rattle.lc_core.specs.Records.{Lie, Spelled, all_words, closed_from, count_of, front_of, span_of, places_of, shifted, closed_at};
+ghost use Rattle.lc_core.specs.Records.{Lie, Spelled, all_words, closed_from, count_of, front_of, span_of, places_of};
+ghost use Rattle.lc_core.specs.Records.{shifted, closed_at};
 
 use crate::record_end::RecordEnd;
 use std::alloc::{AllocError, Global};
@@ -10,9 +12,9 @@ use std::marker::Model;
 // The number of the last record, and one.
 const MOST_RECORDS: u64 = (1 << 63) - 1;
 
-/// The records of a node since the last recovery, as one list of words, with the place of each. Those in front may
-/// have been dropped; a record keeps its number, which counts all that were reserved before it. What is dropped is moved
-/// out only where it is more than half of the words, so that a word is moved once for each that goes at most.
+/// The records of a node since the last recovery, as one list of words, with the place of each. Those in front may have
+/// been dropped; a record keeps its number, which counts all that were reserved before it. What is dropped is moved out
+/// only where it is more than half of the words, so that a word is moved once for each that goes at most.
 #[derive(Drop)]
 pub(crate) struct Records {
     words: Vec<u64>,
@@ -31,7 +33,8 @@ impl Model for Records {
 
     ghost Value = { KeptRecords };
 
-    ghost view = { λ r. record { before = r.first + r.gone; records = drop r.gone (spelled 0 r.words.items r.places.items) } };
+    ghost view = { λ r.
+        record { before = r.first + r.gone; records = drop r.gone (spelled 0 r.words.items r.places.items) } };
 
     ghost invariant = { λ r. AreKept r.first r.words.items r.places.items r.gone r.leading };
 }
@@ -146,7 +149,8 @@ impl Records {
     pub(crate) fn words(&self, number: u64) -> &[u64]
         requires kept { self.now.before ≤ number }
         requires reserved { number < count_of self.now }
-        ensures { (r : Spelled) → slice_get self.now.records (number - self.now.before) ≡ Some r → result.now ≡ r.words }
+        ensures { (r : Spelled) → slice_get self.now.records (number - self.now.before) ≡ Some r
+            → result.now ≡ r.words }
     {
         let place = (number - self.first) as usize;
         between(
@@ -172,8 +176,8 @@ impl Records {
         )
     }
 
-    /// Drops the records below this number, which are closed. It takes no memory, and over many calls the time of what is
-    /// dropped.
+    /// Drops the records below this number, which are closed. It takes no memory, and over many calls the time of what
+    /// is dropped.
     pub(crate) fn forget(&mut self, number: u64)
         requires kept { self.old.before ≤ number }
         requires closed { number ≤ front_of self.old }
@@ -228,7 +232,8 @@ fn start_of(places: &[RecordEnd], place: usize) -> usize
 // How many places stand in front of the first that is not closed, from so many that do.
 fn leading_from(places: &[RecordEnd], known: usize) -> usize
     requires within { known ≤ length places.now }
-    requires known { known + leading (drop known (map (λ p. p.closed) places.now)) ≡ leading (map (λ p. p.closed) places.now) }
+    requires known { known + leading (drop known (map (λ p. p.closed) places.now))
+        ≡ leading (map (λ p. p.closed) places.now) }
     ensures { result ≡ leading (map (λ p. p.closed) places.now) }
 {
     let mut count = known;

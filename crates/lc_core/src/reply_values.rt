@@ -1,9 +1,11 @@
-//! What the replies to events are, as values of the calls that have names. An event gets no other reply than those that are
-//! told apart here.
+//! What the replies to events are, as values of the calls that have names. An event gets no other reply than those that
+//! are told apart here.
 ghost use Rattle.std.specs.Prelude.{◌≡◌, ℕ, true, Some};
-ghost use Rattle.lc_model.specs.declared.event.Event.TheVariants.{Deliver, FlushStep, PageStep, Reserve, ResetStep, SetRange, Trim};
+ghost use Rattle.lc_model.specs.declared.event.Event.TheVariants.{Deliver, FlushStep, PageStep, Reserve, ResetStep};
+ghost use Rattle.lc_model.specs.declared.event.Event.TheVariants.{SetRange, Trim};
 ghost use Rattle.lc_model.specs.declared.event.Event.{Event as Asked};
-ghost use Rattle.lc_core.specs.Answered.{StandsFor, done, emptied, flushed, is_done_or_not, place_taken, range_set, received, trimmed, written};
+ghost use Rattle.lc_core.specs.Answered.{StandsFor, done, emptied, flushed, is_done_or_not, place_taken, range_set};
+ghost use Rattle.lc_core.specs.Answered.{received, trimmed, written};
 
 use crate::call_fault::CallFault;
 use crate::delivery_outcome::DeliveryOutcome;
@@ -25,7 +27,8 @@ pub(crate) fn done(reply: &Reply) -> Result<(), Refusal>
 
 /// Of a range that is to be set.
 pub(crate) fn range_set(reply: &Reply) -> Result<(), CallFault>
-    ensures { (node thread segment offset len : ℕ) → StandsFor (SetRange node thread segment offset len) (range_set result) reply.now }
+    ensures { (node thread segment offset len : ℕ)
+        → StandsFor (SetRange node thread segment offset len) (range_set result) reply.now }
 {
     match reply {
         Reply::Refused(refusal) => Err(CallFault::Refused(*refusal)),
@@ -49,7 +52,8 @@ pub(crate) fn placement(reply: &Reply) -> Result<Placement, CallFault>
 
 /// Of a record that is delivered.
 pub(crate) fn receipt(reply: &Reply) -> Result<DeliveryOutcome, CallFault>
-    ensures { (sender number segment to : ℕ) → StandsFor (Deliver sender number segment to) (received result) reply.now }
+    ensures { (sender number segment to : ℕ)
+        → StandsFor (Deliver sender number segment to) (received result) reply.now }
 {
     match reply {
         Reply::Refused(refusal) => Err(CallFault::Refused(*refusal)),

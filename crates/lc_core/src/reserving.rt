@@ -9,12 +9,13 @@ ghost use Rattle.lc_core.specs.Reserves.{Reserves, Closes, EndsEmpty};
 use crate::desk::Desk;
 
 impl Desk {
-    /// The thread's open transaction is the node's record of this number, from 0, and is not closed yet. Where the thread
-    /// has none, nothing changes. It takes no memory.
+    /// The thread's open transaction is the node's record of this number, from 0, and is not closed yet. Where the
+    /// thread has none, nothing changes. It takes no memory.
     pub(crate) fn reserve(&mut self, thread: u16, number: u64)
         requires seat { thread < vec_len self.old.seats }
         ensures reserves { Reserves thread number self.old self.new }
-        ensures none { (seat : Sitting) → slice_get self.old.seats.items thread ≡ Some seat → open_of seat ≡ None → self.new.seats.items ≡ self.old.seats.items }
+        ensures none { (seat : Sitting) → slice_get self.old.seats.items thread ≡ Some seat → open_of seat ≡ None
+            → self.new.seats.items ≡ self.old.seats.items }
         ensures here { self.new.here ≡ self.old.here }
         ensures seats { vec_len self.new.seats ≡ vec_len self.old.seats }
     {
@@ -24,8 +25,8 @@ impl Desk {
         }
     }
 
-    /// The record of the thread's reservation, whose number is answered, is counted by the tokens of its segments, under whose
-    /// next numbers its pages are changed; where the thread has none, nothing changes. It takes no memory.
+    /// The record of the thread's reservation, whose number is answered, is counted by the tokens of its segments,
+    /// under whose next numbers its pages are changed; where the thread has none, nothing changes. It takes no memory.
     pub(crate) fn count(&mut self, thread: u16) -> Option<u64>
         requires seat { thread < vec_len self.old.seats }
         ensures counts { CountsSeat thread self.old result self.new }
@@ -52,8 +53,8 @@ impl Desk {
         }
     }
 
-    /// The thread's open transaction, which has set nothing, is over: its locks are free. Where the thread has none, nothing
-    /// changes. It takes no memory.
+    /// The thread's open transaction, which has set nothing, is over: its locks are free. Where the thread has none,
+    /// nothing changes. It takes no memory.
     pub(crate) fn end_empty(&mut self, thread: u16)
         requires seat { thread < vec_len self.old.seats }
         requires empty { (tx : Kept) → slice_get self.old.seats.items thread ≡ Some (Open tx) → tx.set ≡ [] }

@@ -38,8 +38,8 @@ impl<D: Area + Drop> Journal<D> {
         least
     }
 
-    /// One of the four steps of a reset of its log: seals it, closes it, makes that stable, and drops what was stable. It
-    /// takes no memory.
+    /// One of the four steps of a reset of its log: seals it, closes it, makes that stable, and drops what was stable.
+    /// It takes no memory.
     pub(crate) fn reset_step(&mut self, known: &KnownClean) -> Reply
         requires up { is_failed D.Area self.old.log ≡ false }
         ensures follows { (node : ℕ) → FollowsReset D.Area node (known_of known.now) self.old result self.new }
@@ -47,7 +47,8 @@ impl<D: Area + Drop> Journal<D> {
         ensures words { self.new.words ≡ self.old.words }
 
         // One call of the device; none at the first step and the last.
-        ensures device { CallsOnce D.Area self.old.log self.new.log ⊎ (area_of D.Area self.new.log ≡ area_of D.Area self.old.log) }
+        ensures device { CallsOnce D.Area self.old.log self.new.log
+            ⊎ (area_of D.Area self.new.log ≡ area_of D.Area self.old.log) }
         ensures fault { TellsFault D.Area (tells_but 1 result) result self.old.log self.new.log }
     {
         if self.log.is_emptied() {
@@ -128,7 +129,8 @@ impl<D: Area + Drop> Journal<D> {
 
 // The least of the locks of the record of these words, and of those that were looked at.
 fn least_with(words: &[u64], known: &KnownClean, rest: Option<Unclean>) -> Option<Unclean>
-    ensures { (r : Spelled) (locks : List Locked) → IsRecord r words.now → rest ≡ least_unclean (known_of known.now) locks
+    ensures { (r : Spelled) (locks : List Locked) → IsRecord r words.now
+        → rest ≡ least_unclean (known_of known.now) locks
         → result ≡ least_unclean (known_of known.now) (r.locks ++ locks) }
 {
     let mut least = rest;

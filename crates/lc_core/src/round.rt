@@ -7,8 +7,8 @@ use crate::world_phase::WorldPhase;
 use lc_disk::Area;
 
 impl<D: Area + Drop> World<D> {
-    /// The round of a node's log, from 0: how many resets have ended since the store came up. It is 0 while the store is down,
-    /// and where its geometry has no such node. It takes no memory, and nothing is read.
+    /// The round of a node's log, from 0: how many resets have ended since the store came up. It is 0 while the store
+    /// is down, and where its geometry has no such node. It takes no memory, and nothing is read.
     pub fn round(&self, node: u16) -> u64
         ensures stands { result ≡ round_in D.Area self.now.phase node }
         ensures shows { ShowsRound D.Area self.now node result }

@@ -15,10 +15,14 @@ impl<D: Stoppable + Drop> World<D> {
     /// event, and without it none is answered. Then memory is wanted only at an event that asks for it. The store is as
     /// those that were answered have left it.
     pub fn run(&mut self, alloc: Global, events: &[Event]) -> RunResult
-        ensures follows { FollowsRun D.Area self.old (take (length result.replies.items) events.now) result.replies.items self.new }
-        ensures lives { FollowsLives D.Area self.old.phase (take (length result.replies.items) events.now) result.replies.items self.new.phase }
-        ensures faults { CountsAll result.replies.items (phase_failures D.Area self.old.phase) (phase_failures D.Area self.new.phase) }
-        ensures calls { CallsAll D.Area D.left (take (length result.replies.items) events.now) result.replies.items self.old.phase self.new.phase }
+        ensures follows { FollowsRun D.Area self.old
+            (take (length result.replies.items) events.now) result.replies.items self.new }
+        ensures lives { FollowsLives D.Area self.old.phase
+            (take (length result.replies.items) events.now) result.replies.items self.new.phase }
+        ensures faults { CountsAll result.replies.items (phase_failures D.Area self.old.phase)
+            (phase_failures D.Area self.new.phase) }
+        ensures calls { CallsAll D.Area D.left
+            (take (length result.replies.items) events.now) result.replies.items self.old.phase self.new.phase }
         ensures all { result.out_of_memory ≡ false → length result.replies.items ≡ length events.now }
         ensures some { result.out_of_memory ≡ true → length result.replies.items < length events.now }
         ensures asks { result.out_of_memory ≡ true → GivesUp D.Area self.old events.now result.replies.items self.new }

@@ -16,8 +16,8 @@ use lc_tx::{Tx, TxFault};
 use std::alloc::Global;
 use std::marker::Model;
 
-/// A thread has at most one transaction that holds locks. One is kept here: while the thread has none it is idle, and the
-/// next begins in it, in the memory that its lists have.
+/// A thread has at most one transaction that holds locks. One is kept here: while the thread has none it is idle, and
+/// the next begins in it, in the memory that its lists have.
 #[derive(Drop)]
 pub(crate) struct Seat {
     tx: Tx,
@@ -88,8 +88,8 @@ impl Seat {
         self.tx.ranges()
     }
 
-    /// Begins the thread's transaction; the thread is numbered below 16. It locks `segments` for writing and `reading` for
-    /// reading, all of them or none, and takes memory only for more than 16 of one kind.
+    /// Begins the thread's transaction; the thread is numbered below 16. It locks `segments` for writing and `reading`
+    /// for reading, all of them or none, and takes memory only for more than 16 of one kind.
     ///
     /// # Errors
     ///
@@ -148,8 +148,8 @@ impl Seat {
         self.doing = Doing::Reserved { number };
     }
 
-    /// Drops the open transaction: what it locked for writing has the bytes that it had, and its locks are free. It takes no
-    /// memory.
+    /// Drops the open transaction: what it locked for writing has the bytes that it had, and its locks are free. It
+    /// takes no memory.
     pub(crate) fn abort(&mut self, here: &mut Here)
         requires { IsOpenOn here.old self.old }
         ensures free { self.new ≡ Free }

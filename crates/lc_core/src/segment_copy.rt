@@ -41,7 +41,8 @@ impl SegmentCopy {
     /// Notes that these positions are changed under the number of the token, where one stands here; positions beyond
     /// the last page are left out. It takes no memory.
     pub(crate) fn touch(&mut self, offset: u32, len: u32)
-        ensures { MatchOption self.old.token.token (self.new ≡ self.old) (λ token. TouchesSlot offset len token self.old self.new) }
+        ensures { MatchOption self.old.token.token (self.new ≡ self.old) (λ token.
+            TouchesSlot offset len token self.old self.new) }
     {
         let Some(token) = self.token.token() else {
             return;
@@ -53,8 +54,8 @@ impl SegmentCopy {
         }
     }
 
-    /// Whether a record of the segment with this number, which is closed, has come here; where the token stands, all of them
-    /// have. It takes no memory.
+    /// Whether a record of the segment with this number, which is closed, has come here; where the token stands, all of
+    /// them have. It takes no memory.
     pub(crate) fn knows(&self, seq: u64) -> bool
         ensures { result ≡ (is_some self.now.token.token || is_known self.now.parts seq) }
     {

@@ -5,9 +5,9 @@ ghost use Rattle.lc_core.specs.Pieces.{bytes_of, number_of};
 use lc_rest::Holder;
 use lc_token::Token;
 
-/// What a segment of a store is made of, beside its token and its area: where the token is, and the bytes that all its records
-/// make, which are those at the node of its token; and the number up to which it is applied elsewhere, with the bytes that the
-/// records up to that number make. This project's own.
+/// What a segment of a store is made of, beside its token and its area. It has where the token is, and the bytes that
+/// all its records make, which are those at the node of its token. It has the number up to which it is applied
+/// elsewhere too, with the bytes that the records up to that number make.
 #[derive(Drop)]
 pub(crate) struct SegmentPiece {
     pub(crate) holder: Holder,

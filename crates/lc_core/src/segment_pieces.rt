@@ -5,7 +5,7 @@ ghost use Rattle.lc_core.specs.Pieces.{AreLong};
 use crate::segment_piece::SegmentPiece;
 use lc_record::Geometry;
 
-/// What the segments of a store of this geometry are made of, from segment 1 on. This project's own.
+/// What the segments of a store of this geometry are made of, from segment 1 on.
 #[derive(Drop)]
 pub(crate) struct SegmentPieces {
     pub(crate) geometry: Geometry,

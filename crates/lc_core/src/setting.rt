@@ -13,8 +13,8 @@ impl Desk {
     ghost use Rattle.lc_core.specs.FollowsDesk.{FollowsOpen, StillFits};
     ghost use Rattle.lc_core.specs.Growing.{MaySetMore};
 
-    /// A thread is about to change `len` bytes of a segment from `offset` on, in its open transaction. It takes memory only
-    /// where it is not refused and a position is not set yet.
+    /// A thread is about to change `len` bytes of a segment from `offset` on, in its open transaction. It takes memory
+    /// only where it is not refused and a position is not set yet.
     pub(crate) fn set_range(
         &mut self,
         thread: u16,
@@ -23,7 +23,8 @@ impl Desk {
         len: u32,
     ) -> Result<Reply, AllocError>
         requires seat { thread < vec_len self.old.seats }
-        ensures follows { IfOk result (λ reply. (node : ℕ) → FollowsOpen node self.old (SetRange node thread segment offset len) reply self.new) }
+        ensures follows { IfOk result (λ reply. (node : ℕ)
+            → FollowsOpen node self.old (SetRange node thread segment offset len) reply self.new) }
         ensures beside { the_images.IsSameBeside self.old.here self.new.here }
         ensures err { OnErr result (StillFits self.old self.new) }
         ensures memory { OnErr result (MaySetMore thread segment offset len self.old) }

@@ -6,7 +6,7 @@ use lc_disk::DeviceFault;
 use std::alloc::AllocError;
 use thiserror::Error;
 
-/// Why the words of a log are not shown. This project's own.
+/// Why the words of a log are not shown.
 #[derive(Clone, Copy, Debug, PartialEq, Eq, Error)]
 pub enum ShowFault {
     /// The store has no such node.

@@ -21,10 +21,11 @@ impl<D: Area + Drop> World<D> {
     ///
     /// # Errors
     ///
-    /// `BadGeometry` with the least index of an area that has not the length of the geometry, is missing, or is too many.
-    /// The areas come back.
+    /// `BadGeometry` with the least index of an area that has not the length of the geometry, is missing, or is too
+    /// many. The areas come back.
     pub fn new(geometry: Geometry, areas: Vec<D>) -> Result<World<D>, (Vec<D>, RecoverFault)>
-        ensures fits { IfOk result (λ w. (m : Setting) (x : Numbers) → m.geometry ≡ geometry → AreHonest D.Area areas.items
+        ensures fits { IfOk result (λ w. (m : Setting) (x : Numbers) → m.geometry ≡ geometry
+            → AreHonest D.Area areas.items
             → AllMergeTo D.Area geometry areas.items m.start x.disks.numbers → x.steps ≡ 0
             → FitsWorld D.Area m w (first_state geometry) x) }
         ensures down { IfOk result (λ w. w.phase ≡ Down (begun geometry areas.items)) }

@@ -1,5 +1,6 @@
 //! How a store stops.
-ghost use Rattle.std.specs.Prelude.{◌≡◌, ◌≤◌, ◌+◌, ◌++◌, ℕ, List, [], length, Some, IfNone, IfSome, slice_get, slice_index_or, vec_capacity, vec_len};
+ghost use Rattle.std.specs.Prelude.{◌≡◌, ◌≤◌, ◌+◌, ◌++◌, ℕ, List, [], length, Some, IfNone, IfSome, slice_get};
+ghost use Rattle.std.specs.Prelude.{slice_index_or, vec_capacity, vec_len};
 ghost use Rattle.lc_record.specs.declared.geometry.Geometry.{Geometry};
 ghost use Rattle.lc_model.specs.declared.event.Event.TheVariants.{Stop};
 ghost use Rattle.lc_model.specs.declared.reply.Reply.TheVariants.{Down as IsDown};
@@ -29,8 +30,8 @@ use lc_recover::Recovery;
 use std::mem;
 
 impl<D: Stoppable + Drop> World<D> {
-    /// All nodes stop: each area is stopped by the choices at its place in the store's order, one that has none there keeps
-    /// what it reads, and a recovery begins on them. It takes no memory.
+    /// All nodes stop: each area is stopped by the choices at its place in the store's order, one that has none there
+    /// keeps what it reads, and a recovery begins on them. It takes no memory.
     pub(crate) fn stop(&mut self, choices: &[Items<Choice>]) -> Reply
         ensures answer { result ≡ IsDown }
         ensures follows { FollowsWorld D.Area self.old (Stop choices.now) result self.new }
@@ -133,7 +134,8 @@ fn log_areas<D: Area + Drop>(mut nodes: Vec<NodeState<D>>, mut areas: Vec<D>) ->
     requires empty { areas.items ≡ [] }
     requires room { vec_len nodes ≤ vec_capacity areas }
     requires there { (len : ℕ) × HaveLogs D.Area len nodes.items }
-    ensures logs { (n : ℕ) (node : TheNode D D.Area) → slice_get nodes.items n ≡ Some node → area_of D.Area node.journal.log ≡ slice_get result.items n }
+    ensures logs { (n : ℕ) (node : TheNode D D.Area) → slice_get nodes.items n ≡ Some node
+        → area_of D.Area node.journal.log ≡ slice_get result.items n }
     ensures count { length result.items ≡ vec_len nodes }
     ensures room { vec_capacity result ≡ vec_capacity areas }
 {

@@ -17,8 +17,8 @@ impl<D: Stoppable + Drop> World<D> {
     ///
     /// # Errors
     ///
-    /// `Down`, `Unknown`, `Halted`, `NotHere`, `Held` by a transaction, `Writing` while a page of the segment is written, and
-    /// `Unflushed`. Nothing has changed then.
+    /// `Down`, `Unknown`, `Halted`, `NotHere`, `Held` by a transaction, `Writing` while a page of the segment is
+    /// written, and `Unflushed`. Nothing has changed then.
     pub fn leave(&mut self, alloc: Global, node: u16, segment: u32) -> Result<(), Refusal>
         ensures { StepsTo D.Area self.old (Leave node segment) (done result) self.new }
     {
@@ -63,8 +63,8 @@ impl<D: Stoppable + Drop> World<D> {
         receipt(&reply)
     }
 
-    /// A node drops the published records that all nodes have applied; how many, up to the first that some node has not.
-    /// It takes no memory.
+    /// A node drops the published records that all nodes have applied; how many, up to the first that some node has
+    /// not. It takes no memory.
     ///
     /// # Errors
     ///

@@ -13,12 +13,13 @@ use lc_token::Token;
 use std::alloc::{AllocError, Global};
 
 impl ReadParts {
-    /// The numbers that the segments have before all their records, or the first segment whose token, records or pages fail their
-    /// test. It takes memory for the numbers, and for a mark of each number of a segment.
+    /// The numbers that the segments have before all their records, or the first segment whose token, records or pages
+    /// fail their test. It takes memory for the numbers, and for a mark of each number of a segment.
     pub(crate) fn test_tokens(&self, alloc: Global) -> Result<Result<Vec<u64>, u32>, AllocError>
         ensures numbers { IfOk result (λ tested. IfOk tested (λ numbers. numbers.items ≡ first_numbers self.now)) }
         ensures keeps { IfOk result (λ tested. IfOk tested (λ _. AllKeepTokens (tests_of self.now []))) }
-        ensures fails { IfOk result (λ tested. IfErr tested (λ segment. (segment ≤ self.now.geometry.segments) × IsFirst (KeepsToken (tests_of self.now [])) 1 segment)) }
+        ensures fails { IfOk result (λ tested. IfErr tested (λ segment. (segment ≤ self.now.geometry.segments)
+            × IsFirst (KeepsToken (tests_of self.now [])) 1 segment)) }
     {
         let mut numbers = Vec::with_capacity(alloc, self.tokens.len())?;
         for place in 0..self.geometry.segments {
@@ -33,7 +34,8 @@ impl ReadParts {
     // The number that the segment at this place has before all its records, if its test does not fail.
     fn first_number(&self, alloc: Global, place: u32) -> Result<Option<u64>, AllocError>
         requires { place < self.now.geometry.segments }
-        ensures number { IfOk result (λ tested. IfSome tested (λ number. number ≡ number_at (first_numbers self.now) (place + 1))) }
+        ensures number { IfOk result (λ tested. IfSome tested (λ number. number
+            ≡ number_at (first_numbers self.now) (place + 1))) }
         ensures keeps { IfOk result (λ tested. IfSome tested (λ _. KeepsToken (tests_of self.now []) (place + 1))) }
         ensures fails { IfOk result (λ tested. IfNone tested (KeepsToken (tests_of self.now []) (place + 1) → ⊥)) }
     {
@@ -80,9 +82,14 @@ fn keeps_first(
 ) -> Result<Option<u64>, AllocError>
     requires area { 2 * 272 * read.now.pages ≤ length read.now.area.now }
     requires count { length counts.now ≡ length logs.now }
-    ensures number { IfOk result (λ tested. IfSome tested (λ number. number ≡ read.now.token.now.seq - count_on read.now.segment (logs_of logs.now))) }
-    ensures keeps { IfOk result (λ tested. IfSome tested (λ _. KeepsTokenIn read.now.segment read.now.pages read.now.token.now read.now.holder read.now.area.now (logs_of logs.now) counts.now)) }
-    ensures fails { IfOk result (λ tested. IfNone tested (KeepsTokenIn read.now.segment read.now.pages read.now.token.now read.now.holder read.now.area.now (logs_of logs.now) counts.now → ⊥)) }
+    ensures number { IfOk result (λ tested. IfSome tested (λ number. number
+        ≡ read.now.token.now.seq - count_on read.now.segment (logs_of logs.now))) }
+    ensures keeps { IfOk result (λ tested. IfSome tested (λ _.
+        KeepsTokenIn read.now.segment read.now.pages read.now.token.now read.now.holder read.now.area.now
+        (logs_of logs.now) counts.now)) }
+    ensures fails { IfOk result (λ tested.
+        IfNone tested (KeepsTokenIn read.now.segment read.now.pages read.now.token.now read.now.holder read.now.area.now
+        (logs_of logs.now) counts.now → ⊥)) }
 {
     let (segment, seq) = (read.segment, read.token.seq());
     let Some(first) = first_number(segment, seq, logs) else {

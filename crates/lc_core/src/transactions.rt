@@ -20,8 +20,8 @@ impl<D: Stoppable + Drop> World<D> {
     ///
     /// # Errors
     ///
-    /// `Down`, `Unknown`, `Halted`, `OutOfTurn` where the thread has a transaction, and of the first segment that cannot be
-    /// locked `NotHere` or `Busy`. Nothing has changed then.
+    /// `Down`, `Unknown`, `Halted`, `OutOfTurn` where the thread has a transaction, and of the first segment that
+    /// cannot be locked `NotHere` or `Busy`. Nothing has changed then.
     pub fn begin(
         &mut self,
         node: u16,
@@ -82,13 +82,13 @@ impl<D: Stoppable + Drop> World<D> {
         }
     }
 
-    /// The open transaction of a thread writes bytes over those of a segment, from 1, from `offset` on, each at a position
-    /// that it set. It takes no memory.
+    /// The open transaction of a thread writes bytes over those of a segment, from 1, from `offset` on, each at a
+    /// position that it set. It takes no memory.
     ///
     /// # Errors
     ///
-    /// `Down`, `Unknown`, `Halted`, `OutOfTurn` without an open transaction, `NotLocked`, `ReadOnly`, `OutOfSegment` and
-    /// `NoRange`. Nothing has changed then.
+    /// `Down`, `Unknown`, `Halted`, `OutOfTurn` without an open transaction, `NotLocked`, `ReadOnly`, `OutOfSegment`
+    /// and `NoRange`. Nothing has changed then.
     pub fn write(
         &mut self,
         node: u16,
@@ -119,8 +119,8 @@ impl<D: Stoppable + Drop> World<D> {
         }
     }
 
-    /// The `len` bytes of a segment, from 1, from `offset` on, which the open transaction of a thread locked for writing or
-    /// for reading. It changes nothing and copies nothing, and takes no memory.
+    /// The `len` bytes of a segment, from 1, from `offset` on, which the open transaction of a thread locked for
+    /// writing or for reading. It changes nothing and copies nothing, and takes no memory.
     ///
     /// # Errors
     ///
@@ -133,8 +133,10 @@ impl<D: Stoppable + Drop> World<D> {
         offset: u32,
         len: usize,
     ) -> Result<&[u8], Refusal>
-        ensures bytes { IfOk result (λ bytes. StepsTo D.Area self.now (Read node thread segment offset len) (Bytes bytes.now) self.now) }
-        ensures refused { IfErr result (λ refusal. StepsTo D.Area self.now (Read node thread segment offset len) (Refused refusal) self.now) }
+        ensures bytes { IfOk result (λ bytes.
+            StepsTo D.Area self.now (Read node thread segment offset len) (Bytes bytes.now) self.now) }
+        ensures refused { IfErr result (λ refusal.
+            StepsTo D.Area self.now (Read node thread segment offset len) (Refused refusal) self.now) }
         ensures len { IfOk result (λ bytes. length bytes.now ≡ len) }
     {
         match &self.phase {
@@ -143,8 +145,8 @@ impl<D: Stoppable + Drop> World<D> {
         }
     }
 
-    /// Fills the buffer with the bytes of a segment, from 1, from `offset` on, which the open transaction of a thread locked
-    /// for writing or for reading. It changes nothing of the store, and takes no memory.
+    /// Fills the buffer with the bytes of a segment, from 1, from `offset` on, which the open transaction of a thread
+    /// locked for writing or for reading. It changes nothing of the store, and takes no memory.
     ///
     /// # Errors
     ///
@@ -157,8 +159,10 @@ impl<D: Stoppable + Drop> World<D> {
         offset: u32,
         buffer: &mut [u8],
     ) -> Result<(), Refusal>
-        ensures bytes { IfOk result (λ _. StepsTo D.Area self.now (Read node thread segment offset (length buffer.old)) (Bytes buffer.new) self.now) }
-        ensures refused { IfErr result (λ refusal. StepsTo D.Area self.now (Read node thread segment offset (length buffer.old)) (Refused refusal) self.now) }
+        ensures bytes { IfOk result (λ _.
+            StepsTo D.Area self.now (Read node thread segment offset (length buffer.old)) (Bytes buffer.new) self.now) }
+        ensures refused { IfErr result (λ refusal.
+            StepsTo D.Area self.now (Read node thread segment offset (length buffer.old)) (Refused refusal) self.now) }
         ensures kept { IfErr result (λ _. buffer.new ≡ buffer.old) }
         ensures len { length buffer.new ≡ length buffer.old }
     {
@@ -171,8 +175,8 @@ impl<D: Stoppable + Drop> World<D> {
         }
     }
 
-    /// The open transaction of a thread is dropped: the segments have the bytes that they had, and its locks are free. It
-    /// takes no memory.
+    /// The open transaction of a thread is dropped: the segments have the bytes that they had, and its locks are free.
+    /// It takes no memory.
     ///
     /// # Errors
     ///
@@ -193,13 +197,13 @@ impl<D: Stoppable + Drop> World<D> {
         }
     }
 
-    /// The open transaction of a thread gets its place in the log of its node; one that set nothing is over. Its locks are
-    /// free once it is closed. It takes memory only for a record for which there is room.
+    /// The open transaction of a thread gets its place in the log of its node; one that set nothing is over. Its locks
+    /// are free once it is closed. It takes memory only for a record for which there is room.
     ///
     /// # Errors
     ///
-    /// `Down`, `Unknown`, `Halted`, `OutOfTurn` without an open transaction, `SequenceSpent`, `TooLong`, `Sealed` while the
-    /// log is being reset, `Full`, and `NoMemory`. Nothing has changed then, and the transaction is still open.
+    /// `Down`, `Unknown`, `Halted`, `OutOfTurn` without an open transaction, `SequenceSpent`, `TooLong`, `Sealed` while
+    /// the log is being reset, `Full`, and `NoMemory`. Nothing has changed then, and the transaction is still open.
     pub fn reserve(&mut self, alloc: Global, node: u16, thread: u16) -> Result<Placement, CallFault>
         ensures { ComesTo D.Area self.old (Reserve node thread) (place_taken result) self.new }
     {

@@ -7,8 +7,8 @@ use crate::node_state::NodeState;
 use lc_disk::Area;
 use lc_record::{Lock, kept_lock, kept_lock_count};
 
-/// How many of the published records of a journal, from the first, are applied at all of these nodes: at each of them every
-/// segment that the record has a lock on. It takes no memory.
+/// How many of the published records of a journal, from the first, are applied at all of these nodes: at each of them
+/// every segment that the record has a lock on. It takes no memory.
 pub(crate) fn applied_in_front<D: Area + Drop>(nodes: &[NodeState<D>], journal: &Journal<D>) -> u64
     ensures within { journal.now.trimmed + result ≤ journal.now.acked }
     ensures counts { Counts D.Area nodes.now journal.now result }

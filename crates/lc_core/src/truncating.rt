@@ -2,7 +2,8 @@
 ghost use Rattle.std.specs.Prelude.{◌≡◌, ◌+◌, true};
 ghost use Rattle.lc_model.specs.declared.event.Event.TheVariants.{ResetStep};
 ghost use Rattle.lc_core.specs.Truncating.{AsksFirst, Repeats, StepsTo, Truncates, empties};
-ghost use Rattle.lc_core.specs.Truncation.{IsAtDue, IsFewer, IsOf, Leads, MakesOne, MakesOneOf, Remains, ThenCleans, ThenResets, WritesIf, steps_if, steps_left};
+ghost use Rattle.lc_core.specs.Truncation.{IsAtDue, IsFewer, IsOf, Leads, MakesOne, MakesOneOf, Remains, ThenCleans};
+ghost use Rattle.lc_core.specs.Truncation.{ThenResets, WritesIf, steps_if, steps_left};
 ghost use Rattle.lc_core.specs.declared.page_cursor.PageCursor.{PageCursor as Cursor};
 ghost use Rattle.lc_core.specs.declared.truncation_step.TruncationStep.TheVariants.{Continues};
 
@@ -20,12 +21,12 @@ const MORE_CALLS: u32 = 3;
 
 impl<D: Stoppable + Drop> World<D> {
     /// Empties the log of a node, each event by `step`, up to the first refusal. It makes a flush, up to `Acked` or
-    /// `Nothing`, writes each page that is dirty or whose write has begun, where the token stands at the node, and
-    /// resets the log. After the flush the pages are asked: where a write would be refused `Uncommitted`, that is
+    /// `Nothing`. Then it writes each page that is dirty or whose write has begun, where the token stands at the node,
+    /// and resets the log. After the flush the pages are asked: where a write would be refused `Uncommitted`, that is
     /// answered and no page is written. The last reply is answered: `Reset`, `Nothing` where the log was empty, or what
-    /// was refused. The pages of a segment are written side by side, each call of all of them before the next, so that
-    /// the syncs of a file that has nothing to sync are free. A segment takes three syncs, and flush and reset three.
-    /// It takes no memory.
+    /// was refused. The pages of a segment are written side by side, each call of all of them before the next. So the
+    /// syncs of a file that has nothing to sync are free. A segment takes three syncs, and flush and reset three. It
+    /// takes no memory.
     ///
     /// Idea: truncation (RVM: Satyanarayanan et al., TOCS 1994); pages side by side are this project's own.
     pub fn truncate(&mut self, alloc: Global, node: u16) -> Reply
@@ -40,8 +41,8 @@ impl<D: Stoppable + Drop> World<D> {
         }
     }
 
-    /// The next event of a truncation, which makes one device call at most: what remains after it is what remained. It is over
-    /// with no event where a page is blocked, and with the first refusal. It takes no memory.
+    /// The next event of a truncation, which makes one device call at most: what remains after it is what remained. It
+    /// is over with no event where a page is blocked, and with the first refusal. It takes no memory.
     ///
     /// Idea: truncation (RVM: Satyanarayanan et al., TOCS 1994); a call at a time is this project's own.
     pub fn truncate_step(&mut self, alloc: Global, truncation: Truncation) -> TruncationStep

@@ -4,10 +4,11 @@ ghost use Rattle.lc_core.specs.Truncation.{segment_of, whole};
 
 use crate::truncation_stage::TruncationStage;
 
-/// A truncation of a node's log, as far as it has come. `World::truncate_step` makes its next device call. What else happens to
-/// the store between two steps is allowed: the truncation goes on from what it finds.
+/// A truncation of a node's log, as far as it has come. `World::truncate_step` makes its next device call. What else
+/// happens to the store between two steps is allowed: the truncation goes on from what it finds.
 ///
-/// Idea: truncation a device call at a time, as recovery is (RVM: Satyanarayanan et al., TOCS 1994, truncates in the background).
+/// Idea: truncation a device call at a time, as recovery is (RVM: Satyanarayanan et al., TOCS 1994, truncates in the
+/// background).
 #[derive(Clone, Copy)]
 pub struct Truncation {
     pub(crate) node: u16,

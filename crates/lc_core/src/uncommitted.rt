@@ -9,8 +9,8 @@ use lc_page::PAGE_BYTES;
 use lc_range::Range;
 
 impl Desk {
-    /// Whether a transaction of this node that is open, or reserved and not closed, has set a position on a page. It takes no
-    /// memory.
+    /// Whether a transaction of this node that is open, or reserved and not closed, has set a position on a page. It
+    /// takes no memory.
     pub(crate) fn is_uncommitted(&self, segment: u32, page: u32) -> bool
         ensures { IsTrue result ↔ HasSeatOn segment page self.now.seats.items }
     {

@@ -6,8 +6,8 @@ use crate::pages::Pages;
 use crate::running::Running;
 use lc_disk::Area;
 
-/// The nodes, each with the area of its log, and the areas of the segments with their page writes, from segment 1 on; and
-/// room for all areas beside each other, for when the store goes down.
+/// The nodes, each with the area of its log, and the areas of the segments with their page writes, from segment 1 on;
+/// and room for all areas beside each other, for when the store goes down.
 #[derive(Drop)]
 pub(crate) struct Up<D: Area> {
     pub(crate) running: Running<D>,

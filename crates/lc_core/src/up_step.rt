@@ -25,7 +25,8 @@ impl<D: Area + Drop> Up<D> {
         ensures memory { OnErr result (AsksMemory D.Area self.old.running event.now) }
         ensures err { OnErr result (StillFitsUp D.Area self.old self.new) }
         ensures faults { IfOk result (λ reply. CountsPhase D.Area (IsUp self.old) reply (IsUp self.new)) }
-        ensures no_fault { OnErr result (phase_failures D.Area (IsUp self.new) ≡ phase_failures D.Area (IsUp self.old)) }
+        ensures no_fault { OnErr result (phase_failures D.Area (IsUp self.new)
+            ≡ phase_failures D.Area (IsUp self.old)) }
         ensures geometry { self.new.running.geometry ≡ self.old.running.geometry }
         ensures unknown { IfOk result (RefusesUnknown self.old.running.geometry event.now) }
         ensures names { IfOk result (λ reply. may_reply event.now reply ≡ true) }
@@ -68,7 +69,8 @@ impl<D: Area + Drop> Up<D> {
 
     // Whether a page is being written of the segment whose token is to leave.
     fn is_writing(&self, event: &Event) -> bool
-        ensures { (m : Setting) (x : Numbers) → FitsPages D.Area m self.now.segments.items x → TellsWriting m x event.now result }
+        ensures { (m : Setting) (x : Numbers) → FitsPages D.Area m self.now.segments.items x
+            → TellsWriting m x event.now result }
     {
         let Event::Leave { segment, .. } = event else {
             return false;

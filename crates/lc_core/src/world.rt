@@ -6,8 +6,8 @@ ghost use Rattle.lc_core.specs.declared.world_phase.WorldPhase.TheVariants.{Down
 use crate::world_phase::WorldPhase;
 use lc_disk::Area;
 
-/// A store of several nodes, on an area for the log of each node and then an area for each segment. It is down until the
-/// recovery that is begun on its areas has made its last step. It always has its areas.
+/// A store of several nodes, on an area for the log of each node and then an area for each segment. It is down until
+/// the recovery that is begun on its areas has made its last step. It always has its areas.
 ///
 /// Idea: recoverable memory (RVM: Satyanarayanan et al., TOCS 1994) that several nodes map, each with a log that brings
 /// the others up to date (log-based coherency: Feeley et al., OSDI 1994).

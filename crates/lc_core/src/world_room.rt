@@ -1,5 +1,6 @@
 //! The memory of a store that comes up.
-ghost use Rattle.std.specs.Prelude.{◌≡◌, ◌≢◌, ◌+◌, ◌*◌, ◌%◌, ◌≤◌, ℕ, true, false, [], None, Some, length, drop, map, replicate, vec_capacity, vec_len, slice_get, slice_index, IfOk};
+ghost use Rattle.std.specs.Prelude.{◌≡◌, ◌≢◌, ◌+◌, ◌*◌, ◌%◌, ◌≤◌, ℕ, true, false, [], None, Some, length, drop, map};
+ghost use Rattle.std.specs.Prelude.{replicate, vec_capacity, vec_len, slice_get, slice_index, IfOk};
 ghost use Rattle.std.specs.Global.{Vec as TheVec};
 ghost use Rattle.lc_record.specs.declared.geometry.Geometry.{Geometry};
 ghost use Rattle.lc_recover.specs.Reads.{AreOfBytes, HaveLengths};
@@ -34,7 +35,7 @@ use lc_recover::Recovered;
 use lc_token::Token;
 use std::alloc::{AllocError, Global};
 
-/// The memory of a store that comes up, taken before its pages are known. This project's own.
+/// The memory of a store that comes up, taken before its pages are known.
 #[derive(Drop)]
 pub(crate) struct WorldRoom<D: Area> {
     pub(crate) geometry: Geometry,
@@ -52,8 +53,8 @@ pub(crate) struct WorldRoom<D: Area> {
 }
 
 impl<D: Area + Drop> WorldRoom<D> {
-    /// That of this geometry. It takes memory for each segment and each thread of each node, for a group of each node, for
-    /// the tokens that travel, and for each page that may be written.
+    /// That of this geometry. It takes memory for each segment and each thread of each node, for a group of each node,
+    /// for the tokens that travel, and for each page that may be written.
     pub(crate) fn new(alloc: Global, geometry: Geometry) -> Result<WorldRoom<D>, AllocError>
         ensures geometry { IfOk result (λ room. room.geometry ≡ geometry) }
     {
@@ -81,7 +82,8 @@ impl<D: Area + Drop> WorldRoom<D> {
         requires each { AreFinished D.Area recovered }
         ensures fresh { IsFresh D.Area recovered result.running }
         ensures geometry { result.running.geometry ≡ recovered.geometry }
-        ensures log_areas { (n : ℕ) (node : NodeState D D.Area) → slice_get result.running.nodes.items n ≡ Some node → area_of D.Area node.journal.log ≡ slice_get recovered.areas n }
+        ensures log_areas { (n : ℕ) (node : NodeState D D.Area) → slice_get result.running.nodes.items n ≡ Some node
+            → area_of D.Area node.journal.log ≡ slice_get recovered.areas n }
         ensures bytes { AreOfBytes D.Area recovered.areas }
         ensures areas { areas_of D.Area result.segments.items ≡ drop recovered.geometry.nodes recovered.areas }
         ensures rest { RestsAll D.Area recovered.geometry result.segments.items }
@@ -108,9 +110,9 @@ impl<D: Area + Drop> WorldRoom<D> {
         }
     }
 
-    /// The store that these pieces make: each node with its log and its records, and with the tokens that are at it; the other
-    /// tokens are on their way. There is an area for each segment, in room for those of the logs too, and of no segment is a
-    /// page being written. It takes no memory.
+    /// The store that these pieces make: each node with its log and its records, and with the tokens that are at it;
+    /// the other tokens are on their way. There is an area for each segment, in room for those of the logs too, and of
+    /// no segment is a page being written. It takes no memory.
     pub(crate) fn adopt(
         self,
         alloc: Global,
@@ -127,8 +129,10 @@ impl<D: Area + Drop> WorldRoom<D> {
         requires all_segments { vec_len areas ≡ self.geometry.segments }
         requires lengths { AreSegments D.Area (2 * 272 * self.geometry.pages) areas.items }
         requires room { self.geometry.nodes + self.geometry.segments ≤ vec_capacity areas }
-        ensures made { IsMadeUp D.Area self.geometry contents.now.pieces.items tokens.items pieces.items areas.items result }
-        ensures adopted { (f : Found) → AreFound D.Area f contents.now tokens.items pieces.items areas.items → IsAdoptedUp D.Area f result }
+        ensures made { IsMadeUp D.Area self.geometry contents.now.pieces.items tokens.items pieces.items areas.items
+            result }
+        ensures adopted { (f : Found) → AreFound D.Area f contents.now tokens.items pieces.items areas.items
+            → IsAdoptedUp D.Area f result }
     {
         let WorldRoom {
             geometry,
@@ -206,7 +210,8 @@ fn open_logs<D: Area + Drop>(nodes: &mut [NodeState<D>], recovered: Recovered<D>
     requires filled { AreFilledNodes D.Area recovered nodes.old }
     requires lengths { HaveLengths D.Area recovered.geometry recovered.areas }
     ensures filled { AreFilledNodes D.Area recovered nodes.new }
-    ensures log_areas { (n : ℕ) (node : NodeState D D.Area) → slice_get nodes.new n ≡ Some node → area_of D.Area node.journal.log ≡ slice_get recovered.areas n }
+    ensures log_areas { (n : ℕ) (node : NodeState D D.Area) → slice_get nodes.new n ≡ Some node
+        → area_of D.Area node.journal.log ≡ slice_get recovered.areas n }
     ensures logs { AreFinished D.Area recovered → (n : ℕ) (node : NodeState D D.Area) →
         slice_get nodes.new n ≡ Some node →
         Stands D.Area node.journal.log 0 [] [] × (is_idle D.Area node.journal.log ≡ true) }
@@ -231,9 +236,11 @@ fn with_areas<D: Area + Drop>(
     requires empty { segments.items ≡ [] }
     requires place { vec_len areas ≤ vec_capacity segments }
     requires count { vec_len writes ≡ vec_len areas }
-    requires long { (k : ℕ) (area : D) (states : TheVec TheState) → slice_get areas.items k ≡ Some area → slice_get writes.items k ≡ Some states
+    requires long { (k : ℕ) (area : D) (states : TheVec TheState) → slice_get areas.items k ≡ Some area
+        → slice_get writes.items k ≡ Some states
         → 2 * 272 * vec_len states ≤ length (D.now area) }
-    requires named { (k : ℕ) (states : TheVec TheState) → slice_get writes.items k ≡ Some states → AreNamed states.items }
+    requires named { (k : ℕ) (states : TheVec TheState) → slice_get writes.items k ≡ Some states
+        → AreNamed states.items }
     ensures areas { areas_of D.Area result.0.items ≡ areas.items }
     ensures writes { map (λ (pages : ThePages D D.Area). pages.writes) result.0.items ≡ writes.items }
     ensures none { result.1.items ≡ [] }
@@ -254,7 +261,8 @@ impl<D: Area + Drop> Journal<D> {
         requires dropped { self.old.dropped ≡ 0 }
         requires acked { self.old.acked ≡ 0 }
         ensures area { area_of D.Area self.new.log ≡ Some area }
-        ensures log { (D.honest area ≡ true → slice_index (D.now area) 0 % 256 ≢ 165) → (D.honest area ≡ true → D.dirty area 0 ≡ false)
+        ensures log { (D.honest area ≡ true → slice_index (D.now area) 0 % 256 ≢ 165)
+            → (D.honest area ≡ true → D.dirty area 0 ≡ false)
             → Stands D.Area self.new.log 0 [] [] }
         ensures works { is_idle D.Area self.new.log ≡ true }
         ensures blank { (g : Geometry) → IsBlankJournal D.Area g self.old → IsBlankJournal D.Area g self.new }

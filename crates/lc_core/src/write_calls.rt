@@ -14,7 +14,8 @@ impl<D: Area + Drop> NodeState<D> {
     /// One of its threads writes. It takes no memory.
     pub(crate) fn write(&mut self, thread: u16, segment: u32, offset: u32, bytes: &[u8]) -> Reply
         requires seat { thread < vec_len self.old.desk.seats }
-        ensures { (node : ℕ) → StepsNode D.Area node (Write node thread segment offset bytes.now) self.old (Ok result) self.new }
+        ensures { (node : ℕ) → StepsNode D.Area node (Write node thread segment offset bytes.now) self.old
+            (Ok result) self.new }
     {
         self.desk.write(thread, segment, offset, bytes)
     }

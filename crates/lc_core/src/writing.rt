@@ -14,7 +14,8 @@ impl Desk {
     /// A thread writes bytes inside the ranges that its open transaction set. It takes no memory.
     pub(crate) fn write(&mut self, thread: u16, segment: u32, offset: u32, bytes: &[u8]) -> Reply
         requires seat { thread < vec_len self.old.seats }
-        ensures follows { (node : ℕ) → FollowsOpen node self.old (Write node thread segment offset bytes.now) result self.new }
+        ensures follows { (node : ℕ) → FollowsOpen node self.old
+            (Write node thread segment offset bytes.now) result self.new }
         ensures beside { the_images.IsSameBeside self.old.here self.new.here }
         ensures seats { vec_len self.new.seats ≡ vec_len self.old.seats }
         ensures names { done_or may_refuse_write result ≡ true }

@@ -1,5 +1,5 @@
-//! What tests of stores stand on: files in memory that list the calls made on them, areas that others have made, and a writer
-//! with little room.
+//! What tests of stores stand on: files in memory that list the calls made on them, areas that others have made, and a
+//! writer with little room.
 #![tactic(auto)]
 
 mod listed_files;

@@ -4,7 +4,8 @@ ghost use Rattle.std.specs.Io.KnownBytes.{Appends};
 ghost use Rattle.lc_recover.specs.Forecast.{sequence_of};
 ghost use Rattle.lc_recover.specs.Reads.{AreLeftAs};
 ghost use Rattle.lc_text.specs.Text.{recovered_text};
-ghost use Rattle.lc_look.specs.Checks.{BehindTexts, ChecksAreas, EndsWithRecovery, IsBehindText, Shows, extent_text, logs_text};
+ghost use Rattle.lc_look.specs.Checks.{BehindTexts, ChecksAreas, EndsWithRecovery, IsBehindText, Shows, extent_text};
+ghost use Rattle.lc_look.specs.Checks.{logs_text};
 ghost use Rattle.lc_look.specs.Printed.{Adds};
 ghost use Rattle.lc_look.specs.Refused.{RefusesLengths};
 
@@ -18,10 +19,10 @@ use lc_text::{WriteFault, write_reply};
 use std::alloc::Global;
 use std::io::{self, Write};
 
-/// Writes how much is in the log of each node, which pages of each segment are behind, and then the lines that a recovery
-/// of these areas would write. Each area is read once; none is synced or written to. It answers the status: 0 where the
-/// store would be recovered, 1 where that would be refused or there was no memory, 3 where a device failed. An `Err` is
-/// a fault of the writer, and says nothing of what was written.
+/// Writes how much is in the log of each node, which pages of each segment are behind, and then the lines that a
+/// recovery of these areas would write. Each area is read once; none is synced or written to. It answers the status: 0
+/// where the store would be recovered, 1 where that would be refused or there was no memory, 3 where a device failed.
+/// An `Err` is a fault of the writer, and says nothing of what was written.
 pub fn check_areas<D: Area, W: Write>(
     alloc: Global,
     geometry: &Geometry,
@@ -29,11 +30,14 @@ pub fn check_areas<D: Area, W: Write>(
     writer: &mut W,
 ) -> Result<u8, WriteFault>
     // The merge of what they read as, and the lines of its recovery.
-    ensures checks { IfOk result (λ status. ChecksAreas D.Area geometry.now areas.old (W.contents writer.old) (W.contents writer.new) status) }
-    ensures wrong { IfOk result (λ status. RefusesLengths D.Area geometry.now areas.old (W.contents writer.old) (W.contents writer.new) status) }
+    ensures checks { IfOk result (λ status.
+        ChecksAreas D.Area geometry.now areas.old (W.contents writer.old) (W.contents writer.new) status) }
+    ensures wrong { IfOk result (λ status.
+        RefusesLengths D.Area geometry.now areas.old (W.contents writer.old) (W.contents writer.new) status) }
 
     // Any areas.
-    ensures tells { IfOk result (λ status. Adds (EndsWithRecovery geometry.now) (W.contents writer.old) (W.contents writer.new) status) }
+    ensures tells { IfOk result (λ status.
+        Adds (EndsWithRecovery geometry.now) (W.contents writer.old) (W.contents writer.new) status) }
     ensures left { AreLeftAs D.Area areas.old areas.new }
 {
     match Survey::read(alloc, geometry, areas) {
@@ -50,7 +54,8 @@ fn show<W: Write>(
     writer: &mut W,
 ) -> Result<u8, WriteFault>
     requires { survey.geometry ≡ geometry.now }
-    ensures shows { IfOk result (λ status. Adds (Shows geometry.now survey.store) (W.contents writer.old) (W.contents writer.new) status) }
+    ensures shows { IfOk result (λ status.
+        Adds (Shows geometry.now survey.store) (W.contents writer.old) (W.contents writer.new) status) }
 {
     write_logs(writer, geometry, &survey)?;
     match survey.forecast(alloc) {
@@ -62,7 +67,8 @@ fn show<W: Write>(
 // Writes how much is in the log of each node.
 fn write_logs<W: Write>(writer: &mut W, geometry: &Geometry, survey: &Survey) -> io::Result<()>
     requires { survey.now.geometry ≡ geometry.now }
-    ensures { OnOk result (Appends (W.contents writer.old) (W.contents writer.new) (logs_text geometry.now survey.now.store)) }
+    ensures { OnOk result (Appends (W.contents writer.old) (W.contents writer.new)
+        (logs_text geometry.now survey.now.store)) }
 {
     for node in 0..geometry.nodes {
         write_log(writer, node, survey.log(node))?;
@@ -72,7 +78,8 @@ fn write_logs<W: Write>(writer: &mut W, geometry: &Geometry, survey: &Survey) ->
 
 // Writes how much is in one log.
 fn write_log<W: Write>(writer: &mut W, node: u16, extent: LogExtent) -> io::Result<()>
-    ensures { OnOk result (Appends (W.contents writer.old) (W.contents writer.new) (extent_text node extent.records extent.words)) }
+    ensures { OnOk result (Appends (W.contents writer.old) (W.contents writer.new)
+        (extent_text node extent.records extent.words)) }
 {
     let LogExtent { records, words } = extent;
     write!(writer, "log {node} records {records} words {words}\n")
@@ -80,8 +87,10 @@ fn write_log<W: Write>(writer: &mut W, node: u16, extent: LogExtent) -> io::Resu
 
 // Writes which pages are behind, and the lines of the recovery.
 fn write_forecast<W: Write>(writer: &mut W, forecast: &Forecast) -> io::Result<()>
-    ensures { OnOk result ((text : List ℕ) × BehindTexts forecast.now.geometry forecast.now.store 1 forecast.now.geometry.segments text
-        × Appends (W.contents writer.old) (W.contents writer.new) (text ++ recovered_text forecast.now.geometry (sequence_of forecast.now))) }
+    ensures { OnOk result ((text : List ℕ)
+        × BehindTexts forecast.now.geometry forecast.now.store 1 forecast.now.geometry.segments text
+        × Appends (W.contents writer.old) (W.contents writer.new)
+        (text ++ recovered_text forecast.now.geometry (sequence_of forecast.now))) }
 {
     write_all_behind(writer, forecast)?;
     write_recovered(writer, forecast)
@@ -89,7 +98,8 @@ fn write_forecast<W: Write>(writer: &mut W, forecast: &Forecast) -> io::Result<(
 
 // Writes which pages of each segment are behind.
 fn write_all_behind<W: Write>(writer: &mut W, forecast: &Forecast) -> io::Result<()>
-    ensures { OnOk result ((text : List ℕ) × BehindTexts forecast.now.geometry forecast.now.store 1 forecast.now.geometry.segments text
+    ensures { OnOk result ((text : List ℕ)
+        × BehindTexts forecast.now.geometry forecast.now.store 1 forecast.now.geometry.segments text
         × Appends (W.contents writer.old) (W.contents writer.new) text) }
 {
     let geometry = forecast.geometry();

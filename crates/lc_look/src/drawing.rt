@@ -4,7 +4,8 @@ ghost use Rattle.lc_record.specs.Lists.{items_of};
 ghost use Rattle.lc_recover.specs.Forecast.{sequence_of};
 ghost use Rattle.lc_recover.specs.Reads.{AreHonest, AreLeftAs, IsLeftAs};
 ghost use Rattle.lc_recover.specs.declared.fault.RecoverFault.TheVariants.{DeviceFault as Failed, NoMemory};
-ghost use Rattle.lc_look.specs.Draws.{AreBarsOf, AreEach, AreFieldsOf, AreTrailing, DrawsAreas, FindsPicture, HaveBytes, IsBarOf, IsCellOf, IsFieldOf, IsPictureOf, TellsDraw};
+ghost use Rattle.lc_look.specs.Draws.{AreBarsOf, AreEach, AreFieldsOf, AreTrailing, DrawsAreas, FindsPicture};
+ghost use Rattle.lc_look.specs.Draws.{HaveBytes, IsBarOf, IsCellOf, IsFieldOf, IsPictureOf, TellsDraw};
 ghost use Rattle.lc_look.specs.Dumps.{StopsAt};
 ghost use Rattle.lc_look.specs.Printed.{Adds};
 ghost use Rattle.lc_look.specs.Refused.{RefusesLengths};
@@ -33,11 +34,14 @@ pub fn draw_areas<D: Area, W: Write>(
     writer: &mut W,
 ) -> Result<u8, WriteFault>
     // The picture of what they read as, or the line of the refusal of its merge.
-    ensures draws { IfOk result (λ status. DrawsAreas D.Area geometry.now areas.old (W.contents writer.old) (W.contents writer.new) status) }
-    ensures wrong { IfOk result (λ status. RefusesLengths D.Area geometry.now areas.old (W.contents writer.old) (W.contents writer.new) status) }
+    ensures draws { IfOk result (λ status.
+        DrawsAreas D.Area geometry.now areas.old (W.contents writer.old) (W.contents writer.new) status) }
+    ensures wrong { IfOk result (λ status.
+        RefusesLengths D.Area geometry.now areas.old (W.contents writer.old) (W.contents writer.new) status) }
 
     // Any areas.
-    ensures tells { IfOk result (λ status. Adds (TellsDraw geometry.now) (W.contents writer.old) (W.contents writer.new) status) }
+    ensures tells { IfOk result (λ status.
+        Adds (TellsDraw geometry.now) (W.contents writer.old) (W.contents writer.new) status) }
     ensures left { AreLeftAs D.Area areas.old areas.new }
 {
     match picture_of(alloc, geometry, areas) {
@@ -63,7 +67,8 @@ fn picture_of<D: Area>(
 
 // The bytes of each of these areas.
 fn read_all<D: Area>(alloc: Global, areas: &mut [D]) -> Result<Vec<Vec<u8>>, RecoverFault>
-    ensures lengths { IfOk result (λ all. map (λ bytes. length bytes) (items_of all.items) ≡ map (λ d. length (D.now d)) areas.old) }
+    ensures lengths { IfOk result (λ all. map (λ bytes. length bytes) (items_of all.items)
+        ≡ map (λ d. length (D.now d)) areas.old) }
     ensures bytes { IfOk result (λ all. AreHonest D.Area areas.old → items_of all.items ≡ map D.now areas.old) }
     ensures fault { IfErr result (λ fault. (fault ≡ NoMemory) ⊎ (fault ≡ Failed)) }
     ensures left { AreLeftAs D.Area areas.old areas.new }
@@ -149,7 +154,8 @@ fn fields_of(
     areas: &[Vec<u8>],
 ) -> Result<Vec<SegmentField>, AllocError>
     requires { HaveBytes forecast.now.geometry (items_of areas.now) }
-    ensures { IfOk result (λ fields. AreFieldsOf forecast.now.geometry forecast.now.store (items_of areas.now) (sequence_of forecast.now) fields.items) }
+    ensures { IfOk result (λ fields. AreFieldsOf forecast.now.geometry forecast.now.store (items_of areas.now)
+        (sequence_of forecast.now) fields.items) }
 {
     let geometry = forecast.geometry();
     let mut fields = Vec::with_capacity(alloc, geometry.segments as usize)?;
@@ -170,7 +176,8 @@ fn field_of(
     requires first { 1 ≤ segment }
     requires last { segment ≤ forecast.now.geometry.segments }
     requires len { length area.now ≡ 2 * 272 * forecast.now.geometry.pages }
-    ensures { IfOk result (IsFieldOf forecast.now.store forecast.now.geometry.pages segment area.now (sequence_of forecast.now segment)) }
+    ensures { IfOk result (IsFieldOf forecast.now.store forecast.now.geometry.pages segment area.now
+        (sequence_of forecast.now segment)) }
 {
     let pages = forecast.geometry().pages;
     let mut cells = Vec::with_capacity(alloc, pages as usize)?;

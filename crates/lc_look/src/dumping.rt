@@ -1,8 +1,10 @@
 //! A page of a store as it would be after a recovery.
-ghost use Rattle.std.specs.Prelude.{◌≡◌, ◌↔◌, ◌+◌, ◌-◌, ◌*◌, ◌<◌, ◌≤◌, ◌^◌, ◌++◌, [], IfErr, IfOk, OnOk, IsTrue, is_ok, true, length, take, drop, flat_map, map, slice_get, slice_index_or, Some};
+ghost use Rattle.std.specs.Prelude.{◌≡◌, ◌↔◌, ◌+◌, ◌-◌, ◌*◌, ◌<◌, ◌≤◌, ◌^◌, ◌++◌, [], IfErr, IfOk, OnOk, IsTrue, is_ok};
+ghost use Rattle.std.specs.Prelude.{true, length, take, drop, flat_map, map, slice_get, slice_index_or, Some};
 ghost use Rattle.std.specs.Io.KnownBytes.{Appends};
 ghost use Rattle.lc_recover.specs.Reads.{AreHonest, AreLeftAs};
-ghost use Rattle.lc_look.specs.Dumps.{DumpsAreas, FindsPage, HasThePage, LacksPage, StopsAt, TellsDump, both_slots, dump_line, dump_text, no_page_text, shown, slot_text, slots_text, spaced};
+ghost use Rattle.lc_look.specs.Dumps.{DumpsAreas, FindsPage, HasThePage, LacksPage, StopsAt, TellsDump, both_slots};
+ghost use Rattle.lc_look.specs.Dumps.{dump_line, dump_text, no_page_text, shown, slot_text, slots_text, spaced};
 ghost use Rattle.lc_look.specs.Printed.{Adds};
 ghost use Rattle.lc_look.specs.Refused.{RefusesLengths};
 
@@ -34,10 +36,14 @@ pub fn dump_areas<D: Area, W: Write>(
     page: u32,
     writer: &mut W,
 ) -> Result<u8, WriteFault>
-    ensures dumps { IfOk result (λ status. DumpsAreas D.Area geometry.now areas.old segment page (W.contents writer.old) (W.contents writer.new) status) }
-    ensures wrong { IfOk result (λ status. HasThePage geometry.now segment page → RefusesLengths D.Area geometry.now areas.old (W.contents writer.old) (W.contents writer.new) status) }
-    ensures lacks { IfOk result (λ status. (HasThePage geometry.now segment page → ⊥) → Adds (LacksPage segment page) (W.contents writer.old) (W.contents writer.new) status) }
-    ensures tells { IfOk result (λ status. Adds (TellsDump segment page) (W.contents writer.old) (W.contents writer.new) status) }
+    ensures dumps { IfOk result (λ status.
+        DumpsAreas D.Area geometry.now areas.old segment page (W.contents writer.old) (W.contents writer.new) status) }
+    ensures wrong { IfOk result (λ status. HasThePage geometry.now segment page
+        → RefusesLengths D.Area geometry.now areas.old (W.contents writer.old) (W.contents writer.new) status) }
+    ensures lacks { IfOk result (λ status. (HasThePage geometry.now segment page → ⊥)
+        → Adds (LacksPage segment page) (W.contents writer.old) (W.contents writer.new) status) }
+    ensures tells { IfOk result (λ status.
+        Adds (TellsDump segment page) (W.contents writer.old) (W.contents writer.new) status) }
     ensures left { AreLeftAs D.Area areas.old areas.new }
 {
     if has_page(geometry, segment, page) {
@@ -56,9 +62,12 @@ fn dump_found<D: Area, W: Write>(
     writer: &mut W,
 ) -> Result<u8, WriteFault>
     requires { HasThePage geometry.now segment page }
-    ensures dumps { IfOk result (λ status. DumpsAreas D.Area geometry.now areas.old segment page (W.contents writer.old) (W.contents writer.new) status) }
-    ensures wrong { IfOk result (λ status. RefusesLengths D.Area geometry.now areas.old (W.contents writer.old) (W.contents writer.new) status) }
-    ensures tells { IfOk result (λ status. Adds (TellsDump segment page) (W.contents writer.old) (W.contents writer.new) status) }
+    ensures dumps { IfOk result (λ status.
+        DumpsAreas D.Area geometry.now areas.old segment page (W.contents writer.old) (W.contents writer.new) status) }
+    ensures wrong { IfOk result (λ status.
+        RefusesLengths D.Area geometry.now areas.old (W.contents writer.old) (W.contents writer.new) status) }
+    ensures tells { IfOk result (λ status.
+        Adds (TellsDump segment page) (W.contents writer.old) (W.contents writer.new) status) }
     ensures left { AreLeftAs D.Area areas.old areas.new }
 {
     match page_of(alloc, geometry, areas, segment, page) {
@@ -104,7 +113,8 @@ fn read_slots<D: Area>(
 ) -> Result<[u8; SLOTS * SLOT_BYTES], DeviceFault>
     requires within { place < length areas.old }
     requires room { (d : D) → slice_get areas.old place ≡ Some d → page * 544 + 544 ≤ length (D.now d) }
-    ensures slots { IfOk result (λ slots. AreHonest D.Area areas.old → slots ≡ both_slots (slice_index_or (map D.now areas.old) place []) page) }
+    ensures slots { IfOk result (λ slots. AreHonest D.Area areas.old
+        → slots ≡ both_slots (slice_index_or (map D.now areas.old) place []) page) }
     ensures left { AreLeftAs D.Area areas.old areas.new }
 {
     let mut slots = [0; SLOTS * SLOT_BYTES];
@@ -129,7 +139,8 @@ fn write_no_page<W: Write>(writer: &mut W, segment: u32, page: u32) -> io::Resul
 // Writes the bytes of a page, and its slots.
 fn write_dump<W: Write>(writer: &mut W, page: u32, found: &FoundPage) -> io::Result<()>
     requires { page < 1024 }
-    ensures { OnOk result (Appends (W.contents writer.old) (W.contents writer.new) (dump_text page found.now.bytes ++ slots_text found.now.slots)) }
+    ensures { OnOk result (Appends (W.contents writer.old) (W.contents writer.new)
+        (dump_text page found.now.bytes ++ slots_text found.now.slots)) }
 {
     write_page(writer, page, &found.bytes)?;
     let (first, second) = found.slots.split_at(SLOT_BYTES);

@@ -4,7 +4,10 @@ ghost use Rattle.std.specs.Io.KnownBytes.{Appends};
 ghost use Rattle.lc_recover.specs.Forecast.{sequence_of};
 ghost use Rattle.lc_recover.specs.Reads.{AreLeftAs};
 ghost use Rattle.lc_look.specs.Checks.{AreBehindIn};
-ghost use Rattle.lc_look.specs.Json.{ChecksJson, EndsJson, IsSegmentJson, RefusesJson, SegmentsJson, ShowsJson, TellsUnread, comma_text, extent_item, extent_json, fault_json, logs_front, logs_json, pages_json, record_json, recovered_json, segment_front, segment_item, stop_json, unread_json};
+ghost use Rattle.lc_look.specs.Json.{ChecksJson, EndsJson, IsSegmentJson, RefusesJson, SegmentsJson, ShowsJson};
+ghost use Rattle.lc_look.specs.Json.{TellsUnread, comma_text, extent_item, extent_json, fault_json, logs_front};
+ghost use Rattle.lc_look.specs.Json.{logs_json, pages_json, record_json, recovered_json, segment_front, segment_item};
+ghost use Rattle.lc_look.specs.Json.{stop_json, unread_json};
 ghost use Rattle.lc_look.specs.Printed.{Adds};
 
 use crate::recovery::{ended, status_of};
@@ -16,10 +19,10 @@ use lc_text::WriteFault;
 use std::alloc::Global;
 use std::io::{self, Write};
 
-/// Writes what `check_areas` finds as the rest of a JSON object: `logs`, `segments`, `refused` and `ok`, with the brace that ends it and a
-/// line feed. The keys are the same, and in this order, whatever is found. The status is that of `check_areas`, and `ok` says whether
-/// it is 0. Each area is read once; none is synced or written to. An `Err` is a fault of the writer, and says nothing of what was
-/// written.
+/// Writes what `check_areas` finds as the rest of a JSON object: `logs`, `segments`, `refused` and `ok`, with the brace
+/// that ends it and a line feed. The keys are the same, and in this order, whatever is found. The status is that of
+/// `check_areas`, and `ok` says whether it is 0. Each area is read once; none is synced or written to. An `Err` is a
+/// fault of the writer, and says nothing of what was written.
 pub fn check_areas_json<D: Area, W: Write>(
     alloc: Global,
     geometry: &Geometry,
@@ -27,11 +30,14 @@ pub fn check_areas_json<D: Area, W: Write>(
     writer: &mut W,
 ) -> Result<u8, WriteFault>
     // The merge of what they read as.
-    ensures checks { IfOk result (λ status. ChecksJson D.Area geometry.now areas.old (W.contents writer.old) (W.contents writer.new) status) }
-    ensures wrong { IfOk result (λ status. RefusesJson D.Area geometry.now areas.old (W.contents writer.old) (W.contents writer.new) status) }
+    ensures checks { IfOk result (λ status.
+        ChecksJson D.Area geometry.now areas.old (W.contents writer.old) (W.contents writer.new) status) }
+    ensures wrong { IfOk result (λ status.
+        RefusesJson D.Area geometry.now areas.old (W.contents writer.old) (W.contents writer.new) status) }
 
     // Any areas.
-    ensures tells { IfOk result (λ status. Adds (EndsJson geometry.now) (W.contents writer.old) (W.contents writer.new) status) }
+    ensures tells { IfOk result (λ status.
+        Adds (EndsJson geometry.now) (W.contents writer.old) (W.contents writer.new) status) }
     ensures left { AreLeftAs D.Area areas.old areas.new }
 {
     match Survey::read(alloc, geometry, areas) {
@@ -40,10 +46,11 @@ pub fn check_areas_json<D: Area, W: Write>(
     }
 }
 
-/// Writes the same rest of an object where the areas were not read for this reason, and answers the status of a check that ends so. An
-/// `Err` is a fault of the writer.
+/// Writes the same rest of an object where the areas were not read for this reason, and answers the status of a check
+/// that ends so. An `Err` is a fault of the writer.
 pub fn refuse_json<W: Write>(writer: &mut W, fault: RecoverFault) -> Result<u8, WriteFault>
-    ensures tells { IfOk result (λ status. Adds (TellsUnread fault) (W.contents writer.old) (W.contents writer.new) status) }
+    ensures tells { IfOk result (λ status.
+        Adds (TellsUnread fault) (W.contents writer.old) (W.contents writer.new) status) }
 {
     ended(write_unread(writer, fault), status_of(fault))
 }
@@ -63,7 +70,8 @@ fn show<W: Write>(
     writer: &mut W,
 ) -> Result<u8, WriteFault>
     requires { survey.geometry ≡ geometry.now }
-    ensures shows { IfOk result (λ status. Adds (ShowsJson geometry.now survey.store) (W.contents writer.old) (W.contents writer.new) status) }
+    ensures shows { IfOk result (λ status.
+        Adds (ShowsJson geometry.now survey.store) (W.contents writer.old) (W.contents writer.new) status) }
 {
     write_all_logs(writer, geometry, &survey)?;
     match survey.forecast(alloc) {
@@ -87,7 +95,8 @@ fn write_logs_front<W: Write>(writer: &mut W) -> io::Result<()>
 
 fn write_all_logs<W: Write>(writer: &mut W, geometry: &Geometry, survey: &Survey) -> io::Result<()>
     requires { survey.now.geometry ≡ geometry.now }
-    ensures { OnOk result (Appends (W.contents writer.old) (W.contents writer.new) (logs_front ++ logs_json geometry.now survey.now.store)) }
+    ensures { OnOk result (Appends (W.contents writer.old) (W.contents writer.new)
+        (logs_front ++ logs_json geometry.now survey.now.store)) }
 {
     write_logs_front(writer)?;
     write_logs(writer, geometry, survey)
@@ -96,7 +105,8 @@ fn write_all_logs<W: Write>(writer: &mut W, geometry: &Geometry, survey: &Survey
 // Writes how much is in the log of each node.
 fn write_logs<W: Write>(writer: &mut W, geometry: &Geometry, survey: &Survey) -> io::Result<()>
     requires { survey.now.geometry ≡ geometry.now }
-    ensures { OnOk result (Appends (W.contents writer.old) (W.contents writer.new) (logs_json geometry.now survey.now.store)) }
+    ensures { OnOk result (Appends (W.contents writer.old) (W.contents writer.new)
+        (logs_json geometry.now survey.now.store)) }
 {
     for node in 0..geometry.nodes {
         write_log(writer, node, survey.log(node))?;
@@ -106,7 +116,8 @@ fn write_logs<W: Write>(writer: &mut W, geometry: &Geometry, survey: &Survey) ->
 
 // Writes how much is in one log.
 fn write_log<W: Write>(writer: &mut W, node: u16, extent: LogExtent) -> io::Result<()>
-    ensures { OnOk result (Appends (W.contents writer.old) (W.contents writer.new) (extent_json node extent.records extent.words)) }
+    ensures { OnOk result (Appends (W.contents writer.old) (W.contents writer.new)
+        (extent_json node extent.records extent.words)) }
 {
     write_comma(writer, node == 0)?;
     let LogExtent { records, words } = extent;
@@ -130,7 +141,9 @@ fn write_extent<W: Write>(writer: &mut W, node: u16, records: usize, words: usiz
 
 // Writes the segments of a store that would be recovered.
 fn write_recovered<W: Write>(writer: &mut W, forecast: &Forecast) -> io::Result<()>
-    ensures { OnOk result ((segments : List ℕ) × SegmentsJson forecast.now.geometry forecast.now.store (sequence_of forecast.now) 1 forecast.now.geometry.segments segments
+    ensures { OnOk result ((segments : List ℕ)
+        × SegmentsJson forecast.now.geometry forecast.now.store
+        (sequence_of forecast.now) 1 forecast.now.geometry.segments segments
         × Appends (W.contents writer.old) (W.contents writer.new) (recovered_json segments)) }
 {
     writer.write_all(b"],\"segments\":[")?;
@@ -140,7 +153,9 @@ fn write_recovered<W: Write>(writer: &mut W, forecast: &Forecast) -> io::Result<
 
 // Writes each segment.
 fn write_segments<W: Write>(writer: &mut W, forecast: &Forecast) -> io::Result<()>
-    ensures { OnOk result ((segments : List ℕ) × SegmentsJson forecast.now.geometry forecast.now.store (sequence_of forecast.now) 1 forecast.now.geometry.segments segments
+    ensures { OnOk result ((segments : List ℕ)
+        × SegmentsJson forecast.now.geometry forecast.now.store
+        (sequence_of forecast.now) 1 forecast.now.geometry.segments segments
         × Appends (W.contents writer.old) (W.contents writer.new) segments) }
 {
     let geometry = forecast.geometry();
@@ -159,7 +174,8 @@ fn write_segment<W: Write>(
 ) -> io::Result<()>
     requires first { 1 ≤ segment }
     requires last { segment ≤ forecast.now.geometry.segments }
-    ensures { OnOk result ((text : List ℕ) × IsSegmentJson pages forecast.now.store (sequence_of forecast.now) segment text
+    ensures { OnOk result ((text : List ℕ)
+        × IsSegmentJson pages forecast.now.store (sequence_of forecast.now) segment text
         × Appends (W.contents writer.old) (W.contents writer.new) text) }
 {
     write_segment_front(writer, segment, forecast.sequence(segment))?;

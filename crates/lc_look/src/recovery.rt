@@ -28,14 +28,18 @@ pub fn recover_areas<D: Area + Drop, W: Write>(
     writer: &mut W,
 ) -> Result<u8, WriteFault>
     // Areas that merge to one result, whatever a stop leaves of them.
-    ensures recovers { IfOk result (λ status. RecoversAreas D.Area geometry areas.items (W.contents writer.old) (W.contents writer.new) status) }
+    ensures recovers { IfOk result (λ status.
+        RecoversAreas D.Area geometry areas.items (W.contents writer.old) (W.contents writer.new) status) }
 
     // Areas whose merge is refused, and areas that are not those of the geometry.
-    ensures refused { IfOk result (λ status. RefusesMerge D.Area geometry areas.items (W.contents writer.old) (W.contents writer.new) status) }
-    ensures wrong { IfOk result (λ status. RefusesLengths D.Area geometry areas.items (W.contents writer.old) (W.contents writer.new) status) }
+    ensures refused { IfOk result (λ status.
+        RefusesMerge D.Area geometry areas.items (W.contents writer.old) (W.contents writer.new) status) }
+    ensures wrong { IfOk result (λ status.
+        RefusesLengths D.Area geometry areas.items (W.contents writer.old) (W.contents writer.new) status) }
 
     // Any areas.
-    ensures tells { IfOk result (λ status. Adds (TellsRecovery geometry) (W.contents writer.old) (W.contents writer.new) status) }
+    ensures tells { IfOk result (λ status.
+        Adds (TellsRecovery geometry) (W.contents writer.old) (W.contents writer.new) status) }
 {
     recover_told(alloc, geometry, areas, &Silent, writer)
 }
@@ -48,10 +52,14 @@ pub fn recover_told<D: Area + Drop, T: Teller, W: Write>(
     teller: &T,
     writer: &mut W,
 ) -> Result<u8, WriteFault>
-    ensures recovers { IfOk result (λ status. RecoversAreas D.Area geometry areas.items (W.contents writer.old) (W.contents writer.new) status) }
-    ensures refused { IfOk result (λ status. RefusesMerge D.Area geometry areas.items (W.contents writer.old) (W.contents writer.new) status) }
-    ensures wrong { IfOk result (λ status. RefusesLengths D.Area geometry areas.items (W.contents writer.old) (W.contents writer.new) status) }
-    ensures tells { IfOk result (λ status. Adds (TellsRecovery geometry) (W.contents writer.old) (W.contents writer.new) status) }
+    ensures recovers { IfOk result (λ status.
+        RecoversAreas D.Area geometry areas.items (W.contents writer.old) (W.contents writer.new) status) }
+    ensures refused { IfOk result (λ status.
+        RefusesMerge D.Area geometry areas.items (W.contents writer.old) (W.contents writer.new) status) }
+    ensures wrong { IfOk result (λ status.
+        RefusesLengths D.Area geometry areas.items (W.contents writer.old) (W.contents writer.new) status) }
+    ensures tells { IfOk result (λ status.
+        Adds (TellsRecovery geometry) (W.contents writer.old) (W.contents writer.new) status) }
 {
     let recovered = recovered(alloc, geometry, areas, teller);
     teller.finished();

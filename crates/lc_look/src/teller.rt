@@ -8,7 +8,8 @@ pub trait Teller {
     /// It is over, or has failed.
     fn finished(&self);
 
-    /// A run on the store is over: so many of its commits are not flushed, and so many transactions are open. They are lost.
+    /// A run on the store is over: so many of its commits are not flushed, and so many transactions are open. They are
+    /// lost.
     fn left(&self, commits: u64, transactions: u64);
 }
 

@@ -8,11 +8,11 @@ use lc_node::{Put, Work};
 use lc_tx::{Images, Tx, TxFault};
 use std::alloc::Global;
 
-/// The segment that has the table. This project's own.
+/// The segment that has the table.
 pub const SEGMENT: u32 = 1;
 
 /// Asks the table of names in the first `len` bytes of segment 1; the answer stands in `answer` after a run that was
-/// not refused. This project's own.
+/// not refused.
 #[derive(Drop)]
 pub struct Ask<'a> {
     pub len: u32,
@@ -25,8 +25,8 @@ impl Work for Ask<'_> {
 
     /// # Errors
     ///
-    /// Those of `Tx::read`, and of a change those of `Tx::set_range` and `Tx::write`; `NoMemory` too where there is none for
-    /// the answer, which only `Find` and `List` want. What was answered is then as before.
+    /// Those of `Tx::read`, and of a change those of `Tx::set_range` and `Tx::write`; `NoMemory` too where there is
+    /// none for the answer, which only `Find` and `List` want. What was answered is then as before.
     fn run<I: Images>(
         &mut self,
         alloc: Global,

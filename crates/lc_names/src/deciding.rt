@@ -50,7 +50,8 @@ pub(crate) fn decide(
 // A new name gets the first free entry.
 fn create(entries: &[NameEntry], name: &[u8], attributes: &[u8]) -> Result<EntryChange, NameFault>
     requires { IsTable entries.now }
-    ensures { MatchResult result (Changes entries.now (Creates entries.now name.now attributes.now)) (IsUncreated entries.now name.now attributes.now) }
+    ensures { MatchResult result (Changes entries.now (Creates entries.now name.now attributes.now))
+        (IsUncreated entries.now name.now attributes.now) }
 {
     match place_of(entries, name)? {
         _ if LONGEST < attributes.len() => Err(NameFault::BadAttributes),
@@ -65,7 +66,8 @@ fn create(entries: &[NameEntry], name: &[u8], attributes: &[u8]) -> Result<Entry
 // The entry of a name gets another name.
 fn rename(entries: &[NameEntry], from: &[u8], to: &[u8]) -> Result<EntryChange, NameFault>
     requires { IsTable entries.now }
-    ensures { MatchResult result (Changes entries.now (Renames entries.now from.now to.now)) (IsUnrenamed entries.now from.now to.now) }
+    ensures { MatchResult result (Changes entries.now (Renames entries.now from.now to.now))
+        (IsUnrenamed entries.now from.now to.now) }
 {
     match (place_of(entries, to)?, found(entries, from)?) {
         (Some(_), _) => Err(NameFault::Exists),

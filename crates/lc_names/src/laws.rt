@@ -6,6 +6,7 @@ ghost use Rattle.lc_names.specs.Table.{attributes_in, IsTable, names_in};
 
 /// The names in use in a table are those of its map, each once.
 pub fn names_of_the_map()
-    ensures same { (entries : List (List ℕ)) (name : List ℕ) → Contains (names_in entries) name ↔ IsSome (attributes_in entries name) }
+    ensures same { (entries : List (List ℕ)) (name : List ℕ) → Contains (names_in entries) name
+        ↔ IsSome (attributes_in entries name) }
     ensures once { (entries : List (List ℕ)) → IsTable entries → IsDistinct bytes_eq (names_in entries) }
 {}

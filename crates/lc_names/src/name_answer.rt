@@ -1,6 +1,6 @@
 //! What the table answers to a command.
 
-/// What the table answers to a command that it does not refuse. This project's own.
+/// What the table answers to a command that it does not refuse.
 #[derive(Drop)]
 pub enum NameAnswer {
     /// The name is created, renamed or removed.

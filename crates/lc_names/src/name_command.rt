@@ -1,6 +1,6 @@
 //! What is asked of a table of names.
 
-/// What is asked of a table of names. A name has 1 to 31 bytes, attributes have at most 31. This project's own.
+/// What is asked of a table of names. A name has 1 to 31 bytes, attributes have at most 31.
 #[derive(Clone, Copy)]
 pub enum NameCommand<'a> {
     /// Puts a new name, with these attributes.

@@ -1,6 +1,6 @@
 //! Why the table refuses a command.
 
-/// Why the table refuses a command. This project's own.
+/// Why the table refuses a command.
 #[derive(Clone, Copy, Debug, PartialEq, Eq)]
 pub enum NameFault {
     /// The table has the name already.

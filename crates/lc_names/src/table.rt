@@ -1,7 +1,8 @@
 //! The table of names: whole entries, one after another.
 ghost use Rattle.std.specs.Prelude.{◌≡◌, ◌<◌, ◌↔◌, ℕ, length, map, IfOk, IsTrue, MatchOption, MatchResult, OnErr};
 ghost use Rattle.std.specs.Global.{Vec as Items};
-ghost use Rattle.lc_names.specs.Table.{HasNames, IsAbsent, IsNoName, IsPlaceOf, IsSoundAt, IsTable, IsUnplaced, names_in};
+ghost use Rattle.lc_names.specs.Table.{HasNames, IsAbsent, IsNoName, IsPlaceOf, IsSoundAt, IsTable, IsUnplaced};
+ghost use Rattle.lc_names.specs.Table.{names_in};
 
 use crate::NameFault;
 use crate::name_entry::{ATTRIBUTES, LONGEST, NAME, NameEntry, text_at};
@@ -27,7 +28,8 @@ fn is_sound_at(entries: &[NameEntry], place: usize) -> bool
 
 /// The place of a name, counted from 0, or `BadName` where it is none.
 pub(crate) fn place_of(entries: &[NameEntry], name: &[u8]) -> Result<Option<usize>, NameFault>
-    ensures { MatchResult result (λ place. MatchOption place (IsAbsent name.now entries.now) (IsPlaceOf name.now entries.now)) (IsNoName name.now) }
+    ensures { MatchResult result (λ place.
+        MatchOption place (IsAbsent name.now entries.now) (IsPlaceOf name.now entries.now)) (IsNoName name.now) }
 {
     if name.is_empty() || LONGEST < name.len() {
         return Err(NameFault::BadName);

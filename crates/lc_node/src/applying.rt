@@ -1,5 +1,6 @@
 //! Records that peers published are put on the image of a segment whose token is elsewhere.
-ghost use Rattle.std.specs.Prelude.{◌≡◌, ◌+◌, ◌++◌, ◌∷◌, [], ◌≤◌, ◌<◌, false, OnErr, OnOk, None, IsSome, IsSomeAnd, length};
+ghost use Rattle.std.specs.Prelude.{◌≡◌, ◌+◌, ◌++◌, ◌∷◌, [], ◌≤◌, ◌<◌, false, OnErr, OnOk, None, IsSome, IsSomeAnd};
+ghost use Rattle.std.specs.Prelude.{length};
 ghost use Rattle.lc_token.specs.Backlog.{counted, forgetting, is_known, keeping, HandsOutKept};
 ghost use Rattle.lc_tx.specs.Image.{laid_over};
 ghost use Rattle.lc_tx.specs.declared.holders.Holders.TheVariants.{Free};
@@ -28,8 +29,8 @@ impl<D: Area + Drop> SegSide<D> {
         self.hold_back.applied()
     }
 
-    /// Holds back a part that is not known, until the numbers before it have come. Fails for want of memory alone, and then
-    /// changes nothing.
+    /// Holds back a part that is not known, until the numbers before it have come. Fails for want of memory alone, and
+    /// then changes nothing.
     pub(crate) fn keep(&mut self, part: Part) -> Result<(), AllocError>
         requires { is_known self.old.backlog part.seq ≡ false }
         ensures kept { OnOk result (self.new ≡ record self.old { backlog = keeping self.old.backlog part }) }
@@ -55,15 +56,16 @@ impl<D: Area + Drop> SegSide<D> {
         self.applied.reserve(more)
     }
 
-    /// Applies the part of a record that a peer published, which has the next number, and then those that are held back and
-    /// follow on it without a hole. The token is elsewhere. It takes no memory.
+    /// Applies the part of a record that a peer published, which has the next number, and then those that are held back
+    /// and follow on it without a hole. The token is elsewhere. It takes no memory.
     pub(crate) fn apply(&mut self, part: Part)
         requires here { IsSome self.old.image }
         requires elsewhere { self.old.standing.token ≡ None }
         requires next { part.seq ≡ self.old.backlog.applied + 1 }
         requires room { length self.old.applied + 1 + length self.old.backlog.kept ≤ self.old.room }
         ensures applied { self.new ≡ record (applying part self.old) { image = self.new.image } }
-        ensures shows { IsSomeAnd self.new.image (λ image. image.bytes.items ≡ laid_parts self.new.applied self.new.base) }
+        ensures shows { IsSomeAnd self.new.image (λ image. image.bytes.items
+            ≡ laid_parts self.new.applied self.new.base) }
         ensures free { IsSomeAnd self.new.image (λ image. image.holders ≡ Free) }
     {
         let mut image = self.take_image();

@@ -6,8 +6,8 @@ ghost use Rattle.lc_node.specs.Shares.{AreAllTaken, AreLogs, ArePages};
 use lc_disk::Area;
 use lc_recover::Recovered;
 
-/// The areas of the logs of a store, in the order of its nodes, and of the pages of its segments, each in a place from which
-/// it can be taken. This project's own.
+/// The areas of the logs of a store, in the order of its nodes, and of the pages of its segments, each in a place from
+/// which it can be taken.
 #[derive(Drop)]
 pub(crate) struct Areas<D: Area + Drop> {
     pub(crate) logs: Vec<D>,

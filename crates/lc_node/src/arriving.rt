@@ -13,9 +13,9 @@ use lc_page::PAGE_BYTES;
 use lc_token::{Token, TokenPlace};
 
 impl<D: Area + Drop> SegSide<D> {
-    /// Places a token that came here, with the area of the pages. It may where no token is here, where it is of the segment
-    /// and has as many pages, and where the node has applied just the records that it has seen; else it is handed back, and
-    /// nothing has changed. It takes no memory. Log-based coherency: Feeley et al., OSDI 1994.
+    /// Places a token that came here, with the area of the pages. It may where no token is here, where it is of the
+    /// segment and has as many pages, and where the node has applied just the records that it has seen; else it is
+    /// handed back, and nothing has changed. It takes no memory. Log-based coherency: Feeley et al., OSDI 1994.
     pub(crate) fn arrive(&mut self, journey: Travelling<D>) -> Result<(), Travelling<D>>
         ensures done { IsOk result ↔ MayArrive self.old journey }
         ensures arrived { OnOk result (self.new ≡ with_token journey self.old) }
@@ -30,14 +30,16 @@ impl<D: Area + Drop> SegSide<D> {
         Ok(())
     }
 
-    /// Places a token that left and was not sent, with the area of the pages: all is as it was before it left. It takes no
-    /// memory.
+    /// Places a token that left and was not sent, with the area of the pages: all is as it was before it left. It takes
+    /// no memory.
     pub(crate) fn stay(&mut self, journey: Travelling<D>)
         requires none { self.old.standing.token ≡ None }
         requires segment { journey.token.segment ≡ self.old.segment }
         requires number { journey.token.seq ≡ self.old.backlog.applied }
-        requires fits { FitsToken D.Area self.old.since journey.area journey.token (laid_parts self.old.applied self.old.base) }
-        ensures { self.new ≡ record self.old { standing = record self.old.standing { token = Some journey.token }; pages = Serves journey.area } }
+        requires fits { FitsToken D.Area self.old.since journey.area journey.token
+            (laid_parts self.old.applied self.old.base) }
+        ensures { self.new ≡ record self.old
+            { standing = record self.old.standing { token = Some journey.token }; pages = Serves journey.area } }
     {
         let Travelling { token, area, .. } = journey;
         self.serve(token, area);
@@ -48,14 +50,16 @@ impl<D: Area + Drop> SegSide<D> {
         requires segment { token.segment ≡ self.old.segment }
         requires number { token.seq ≡ self.old.backlog.applied }
         requires fits { FitsToken D.Area self.old.since area token (laid_parts self.old.applied self.old.base) }
-        ensures { self.new ≡ record self.old { standing = record self.old.standing { token = Some token }; pages = Serves area } }
+        ensures { self.new ≡ record self.old
+            { standing = record self.old.standing { token = Some token }; pages = Serves area } }
     {
         self.token = TokenPlace::new(self.segment, Some(token));
         self.pages = PageArea::Serves(area);
     }
 
-    /// Takes in a token that came: true, it has arrived; false, it waits here until the node has applied what it has seen.
-    /// Where another waits, and it may not arrive, it is handed back, and nothing has changed. It takes no memory.
+    /// Takes in a token that came: true, it has arrived; false, it waits here until the node has applied what it has
+    /// seen. Where another waits, and it may not arrive, it is handed back, and nothing has changed. It takes no
+    /// memory.
     pub(crate) fn admit(&mut self, journey: Travelling<D>) -> Result<bool, Travelling<D>>
         ensures arrived { (result ≡ Ok true) ↔ MayArrive self.old journey }
         ensures waits { (result ≡ Ok false) ↔ ((MayArrive self.old journey → ⊥) × (self.old.waiting ≡ None)) }
@@ -78,7 +82,8 @@ impl<D: Area + Drop> SegSide<D> {
     /// The token that waits arrives, if there is one and it may. It takes no memory.
     pub(crate) fn admit_waiting(&mut self) -> bool
         ensures when { IsTrue result ↔ IsSomeAnd self.old.waiting (MayArrive self.old) }
-        ensures arrived { result ≡ true → ForSome self.old.waiting (λ journey. self.new ≡ record (with_token journey self.old) { waiting = None }) }
+        ensures arrived { result ≡ true → ForSome self.old.waiting (λ journey. self.new
+            ≡ record (with_token journey self.old) { waiting = None }) }
         ensures none { result ≡ false → self.new ≡ self.old }
     {
         let Some(journey) = self.waiting.take() else {

@@ -8,7 +8,7 @@ use std::alloc::{AllocError, Global};
 use std::marker::Model;
 
 /// A segment at a node, which stays where it is while the box goes out of its lock and back: a lock hands its value
-/// out by move, and a segment is some hundreds of bytes large. Contracts see the segment. This project's own.
+/// out by move, and a segment is some hundreds of bytes large. Contracts see the segment.
 #[derive(Drop)]
 pub struct BoxedSide<D: Area + Drop> {
     pub(crate) inner: Box<SegSide<D>>,

@@ -3,7 +3,8 @@ ghost use Rattle.std.specs.Prelude.{◌≡◌, ◌*◌, ◌≤◌, [], All, IfEr
 ghost use Rattle.std.specs.Option.{ForSome, option_copied};
 ghost use Rattle.std.specs.VecDeque.{deque_capacity};
 ghost use Rattle.lc_node.specs.Each.{Each};
-ghost use Rattle.lc_node.specs.Truncates.{FailsPages, FailsSides, HasPagesIn, IsFolded, IsSameHeld, SeesSides, WritesPages, WritesSide};
+ghost use Rattle.lc_node.specs.Truncates.{FailsPages, FailsSides, HasPagesIn, IsFolded, IsSameHeld, SeesSides};
+ghost use Rattle.lc_node.specs.Truncates.{WritesPages, WritesSide};
 
 use crate::held::HeldSide;
 use crate::page_area::PageArea;
@@ -31,14 +32,14 @@ impl<D: Area + Drop> SegSide<D> {
         self.base.bytes().len().div_ceil(PAGE_BYTES)
     }
 
-    /// Folds the applied records into the base, and writes the dirty pages, if their area is here: each page makes its call
-    /// number i before any makes the next, so that they share three syncs. `writes` is empty, with room for a write of each
-    /// page. It takes no memory.
+    /// Folds the applied records into the base, and writes the dirty pages, if their area is here: each page makes its
+    /// call number i before any makes the next, so that they share three syncs. `writes` is empty, with room for a
+    /// write of each page. It takes no memory.
     ///
     /// # Errors
     ///
-    /// `Halted` exactly where a call of the area failed before; `DeviceFault` where one fails now, and then only a recovery reads the
-    /// area again. The token is as it was.
+    /// `Halted` exactly where a call of the area failed before; `DeviceFault` where one fails now, and then only a
+    /// recovery reads the area again. The token is as it was.
     pub(crate) fn write_pages(&mut self, writes: &mut VecDeque<Writing>) -> Result<(), NodeFault>
         requires none { writes.old.items ≡ [] }
         requires room { length self.old.base ≤ deque_capacity writes.old * 256 }

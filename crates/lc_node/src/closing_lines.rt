@@ -1,5 +1,6 @@
 //! The lines of a cluster are closed, and the tokens that were on their way are handed out.
-ghost use Rattle.std.specs.Prelude.{◌≡◌, ◌≤◌, ◌<◌, ◌∷◌, ◌++◌, ℕ, All, List, Some, [], length, slice_get, vec_len, IfOk, OnOk};
+ghost use Rattle.std.specs.Prelude.{◌≡◌, ◌≤◌, ◌<◌, ◌∷◌, ◌++◌, ℕ, All, List, Some, [], length, slice_get, vec_len, IfOk};
+ghost use Rattle.std.specs.Prelude.{OnOk};
 ghost use Rattle.lc_line.specs.Ends.{rest_of};
 ghost use Rattle.lc_node.specs.Closing.{AreJoined, AreOfOne, Gives, GivesAll, GivesBoth, Grows, IsBehindFirst, left_on};
 ghost use Rattle.lc_node.specs.Each.{Each};
@@ -49,8 +50,8 @@ fn drain<R: Wait, P: Drop>(
     Ok(())
 }
 
-/// Closes a line, and adds the tokens that are still on it: the one that its receiving end keeps, and then those that were sent
-/// and not taken. What had been taken is what was sent first. Records that are still on it are dropped.
+/// Closes a line, and adds the tokens that are still on it: the one that its receiving end keeps, and then those that
+/// were sent and not taken. What had been taken is what was sent first. Records that are still on it are dropped.
 fn close<R: Wait, P: Drop>(
     rt: &R,
     to: PeerEnd<P>,
@@ -94,10 +95,12 @@ fn close_with_all<R: Wait, P: Drop>(
     peers: &mut Vec<NodeEnds<P>>,
     tokens: &mut Vec<P>,
 ) -> Result<(), AllocError>
-    requires lines { (place : ℕ) (peer : TheEnds P) → slice_get peers.old.items place ≡ Some peer → AreJoined place mine peer }
+    requires lines { (place : ℕ) (peer : TheEnds P) → slice_get peers.old.items place ≡ Some peer
+        → AreJoined place mine peer }
     ensures peers { OnOk result (Each IsBehindFirst peers.old.items peers.new.items) }
     ensures grows { Grows tokens.old.items tokens.new.items }
-    ensures tokens { OnOk result ((place : ℕ) (peer : TheEnds P) → slice_get peers.old.items place ≡ Some peer → GivesBoth place mine peer tokens.new.items) }
+    ensures tokens { OnOk result ((place : ℕ) (peer : TheEnds P) → slice_get peers.old.items place ≡ Some peer
+        → GivesBoth place mine peer tokens.new.items) }
 {
     let mut mine = mine;
     for place in 0..peers.len() {
@@ -143,8 +146,8 @@ pub(crate) fn take_ends<R: Wait, P: Drop>(
     Ok(all)
 }
 
-/// Closes the lines from each node to each other, and hands out the tokens that were still on their way, those too that a
-/// receiving end keeps. It takes memory for them. This project's own.
+/// Closes the lines from each node to each other, and hands out the tokens that were still on their way, those too that
+/// a receiving end keeps. It takes memory for them. This project's own.
 pub(crate) fn close_lines<R: Wait, P: Drop>(
     rt: &R,
     alloc: Global,

@@ -9,10 +9,10 @@ use lc_disk::Area;
 use lc_lock::TicketLock;
 use lc_record::Geometry;
 
-/// The nodes of a store, numbered from 0, which keep one another's segments current by the records of their logs, and hand
-/// segments to one another, each with its token. From each node to each other there is a line of its own. The locks are got in one
-/// order: receiving ends, segments ascending, the log, sending ends, the numbers of what was dropped. Log-based coherency: Feeley
-/// et al., OSDI 1994.
+/// The nodes of a store, numbered from 0, which keep one another's segments current by the records of their logs, and
+/// hand segments to one another, each with its token. From each node to each other there is a line of its own. The
+/// locks are got in one order: receiving ends, segments ascending, the log, sending ends, the numbers of what was
+/// dropped. Log-based coherency: Feeley et al., OSDI 1994.
 #[derive(Drop)]
 pub struct Cluster<D: Area + Drop> {
     pub(crate) geometry: Geometry,
@@ -20,9 +20,12 @@ pub struct Cluster<D: Area + Drop> {
     pub(crate) dropped: TicketLock<Dropped, ()>,
     ghost wired: { AreWiredAs (vec_len members) (wired_by members.items) },
     ghost one_key: { All HasOwnKey members.items },
-    ghost numbered: { (place : ℕ) (member : TheMember D) → slice_get members.items place ≡ Some member → member.node.number ≡ place },
-    ghost peers: { (place : ℕ) (member : TheMember D) → slice_get members.items place ≡ Some member → member.node.is_alone ≡ false },
+    ghost numbered: { (place : ℕ) (member : TheMember D) → slice_get members.items place ≡ Some member
+        → member.node.number ≡ place },
+    ghost peers: { (place : ℕ) (member : TheMember D) → slice_get members.items place ≡ Some member
+        → member.node.is_alone ≡ false },
     ghost few: { vec_len members ≤ 65535 },
     ghost all_nodes: { vec_len members ≡ geometry.nodes },
-    ghost all_segments: { (place : ℕ) (member : TheMember D) → slice_get members.items place ≡ Some member → vec_len member.node.segments ≡ geometry.segments },
+    ghost all_segments: { (place : ℕ) (member : TheMember D) → slice_get members.items place ≡ Some member
+        → vec_len member.node.segments ≡ geometry.segments },
 }

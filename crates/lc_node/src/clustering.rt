@@ -31,8 +31,8 @@ impl<D: Area + Drop> Cluster<D> {
         &self.member(node).node
     }
 
-    /// Sends the peers of a node the records that it has published and they lack: see `SendEnds::spread`. It waits for the lock
-    /// of the log, and then for that of the sending ends.
+    /// Sends the peers of a node the records that it has published and they lack: see `SendEnds::spread`. It waits for
+    /// the lock of the log, and then for that of the sending ends.
     ///
     /// # Errors
     ///

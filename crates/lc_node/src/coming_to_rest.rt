@@ -21,17 +21,18 @@ use std::alloc::{AllocError, Global};
 use std::sync::Wait;
 
 impl<D: Area + Drop> Cluster<D> {
-    /// What the cluster leaves once its threads have ended, of each node and of each segment, as the types of a running node keep it:
-    /// `lc_adopt::into_world` makes a store of it. For each node there is a list of its committers' seats, which may be empty: each
-    /// record of which one of them has a receipt stands in the node's log, or is of an earlier round and known clean. It waits for
-    /// each lock, so who still has a log or a segment lets it wait for ever. That the parts agree with one another is not looked at.
-    /// This project's own.
+    /// What the cluster leaves once its threads have ended, of each node and of each segment, as the types of a running
+    /// node keep it: `lc_adopt::into_world` makes a store of it. For each node there is a list of its committers'
+    /// seats, which may be empty: each record of which one of them has a receipt stands in the node's log, or is of an
+    /// earlier round and known clean. It waits for each lock, so who still has a log or a segment lets it wait for
+    /// ever. That the parts agree with one another is not looked at.
     ///
     /// # Errors
     ///
-    /// `Mismatch` of a node's seats, where something is reserved that was not closed; of its log, where a call of the device or of a
-    /// segment's area failed, and where the log has not the room of the geometry's; of a segment's token, where there is not one alone,
-    /// with its pages. `NoMemory`. The cluster is gone.
+    /// `Mismatch` names the part that does not fit. It is a node's seats, where something is reserved that was not
+    /// closed. It is a node's log, where a call of the device or of a segment's area failed, and where the log has not
+    /// the room of the geometry's. It is a segment's token, where there is not one alone, with its pages. `NoMemory`.
+    /// The cluster is gone.
     pub fn into_parts<R: Wait>(
         self,
         rt: &R,
@@ -40,7 +41,8 @@ impl<D: Area + Drop> Cluster<D> {
     ) -> Result<Parts<D>, NodeFault>
         requires own { AreOwnSeats self seats.items }
         ensures kept { IfOk result (λ parts. AreKept D.Area parts) }
-        ensures received { IfOk result (λ parts. (node : ℕ) (part : ThePart D D.Area) (mine : Several Seat) → slice_get parts.nodes.items node ≡ Some part → slice_get seats.items node ≡ Some mine
+        ensures received { IfOk result (λ parts. (node : ℕ) (part : ThePart D D.Area) (mine : Several Seat)
+            → slice_get parts.nodes.items node ≡ Some part → slice_get seats.items node ≡ Some mine
             → AreReceived part.round part.stable.items part.known mine.items) }
         ensures geometry { IfOk result (λ parts. parts.geometry ≡ self.geometry) }
         ensures refused { IfErr result (StopsParts self.geometry) }

@@ -1,7 +1,7 @@
 //! How a transaction ends.
 use lc_stage::Receipt;
 
-/// Whether a transaction waits until its record is stable. This project's own.
+/// Whether a transaction waits until its record is stable.
 #[derive(Clone, Copy, Debug, PartialEq, Eq)]
 pub enum Mode {
     /// It does not wait.
@@ -10,7 +10,7 @@ pub enum Mode {
     Flush,
 }
 
-/// What became of a transaction. This project's own.
+/// What became of a transaction.
 #[derive(Clone, Copy, Debug)]
 pub enum Commit {
     /// Nothing was set, so there is no record.

@@ -24,8 +24,8 @@ pub enum Confirmed {
 }
 
 impl<D: Area + Drop> LogSide<D> {
-    /// Where the record of a receipt is, which this seat got from `durable`. It takes no memory. The stage is that of the
-    /// log and of the seat.
+    /// Where the record of a receipt is, which this seat got from `durable`. It takes no memory. The stage is that of
+    /// the log and of the seat.
     pub(crate) fn confirm(
         &mut self,
         stage: &Stage,
@@ -38,8 +38,10 @@ impl<D: Area + Drop> LogSide<D> {
         ensures same { IsSeatOf stage.now result.0 × (commit_view result.0 ≡ commit_view seat) }
         ensures log { IsFlusherOf stage.now self.new.flusher × IsSameLog self.old self.new }
         ensures here { receipt.round ≡ self.old.round → (index : ℕ) × (result.1 ≡ Here index)
-            × ((r : Run) → Owns (commit_view seat).receipts r → IsReceiptOf r receipt → IsAmong self.old.stable index r.place r.words) }
-        ensures earlier { receipt.round ≢ self.old.round → (result.1 ≡ Earlier self.old.round) × (receipt.round < self.old.round) }
+            × ((r : Run) → Owns (commit_view seat).receipts r → IsReceiptOf r receipt
+            → IsAmong self.old.stable index r.place r.words) }
+        ensures earlier { receipt.round ≢ self.old.round
+            → (result.1 ≡ Earlier self.old.round) × (receipt.round < self.old.round) }
     {
         let seat = stage.meet(&mut self.flusher, seat);
         if receipt.round() != self.round {

@@ -17,8 +17,10 @@ pub(crate) fn copies_for<P: Drop, D: Area + Drop>(
     peers: &[PeerEnd<P>],
 ) -> Result<Vec<VecDeque<Vec<u64>>>, AllocError>
     ensures fit { IfOk result (λ copies. Each (λ peer lacks. CanBeSent peer lacks.items) peers.now copies.items) }
-    ensures next { IfOk result (λ copies. Each (λ peer lacks. AreNext (published log.now) peer lacks.items) peers.now copies.items) }
-    ensures most { IfOk result (λ copies. Each (λ peer lacks. AreAllNext log.now.gone (published log.now) peer lacks.items) peers.now copies.items) }
+    ensures next { IfOk result (λ copies.
+        Each (λ peer lacks. AreNext (published log.now) peer lacks.items) peers.now copies.items) }
+    ensures most { IfOk result (λ copies.
+        Each (λ peer lacks. AreAllNext log.now.gone (published log.now) peer lacks.items) peers.now copies.items) }
     ensures memory { OnErr result (0 < length peers.now) }
 {
     let mut copies = Vec::with_capacity(alloc, peers.len())?;

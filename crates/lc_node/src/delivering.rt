@@ -21,8 +21,8 @@ impl<D: Area + Drop> SegSide<D> {
         self.token.is_empty() && seq.checked_sub(1) == Some(self.applied_number())
     }
 
-    /// Makes ready for its part of a record, which is copied where it is not known here: all memory is taken, and a part that is not
-    /// the next is held back at once.
+    /// Makes ready for its part of a record, which is copied where it is not known here: all memory is taken, and a
+    /// part that is not the next is held back at once.
     pub(crate) fn prepare(&mut self, alloc: Global, record: &View) -> Reception
         ensures { Prepares (part_of self.old.segment «record».now) self.old result self.new }
     {
@@ -33,8 +33,10 @@ impl<D: Area + Drop> SegSide<D> {
     }
 
     fn make_ready(&mut self, alloc: Global, record: &View) -> Result<Reception, AllocError>
-        ensures ready { IfOk result (λ reception. Prepares (part_of self.old.segment «record».now) self.old reception self.new) }
-        ensures err { OnErr result (Prepares (part_of self.old.segment «record».now) self.old Reception.NoMemory self.new) }
+        ensures ready { IfOk result (λ reception.
+            Prepares (part_of self.old.segment «record».now) self.old reception self.new) }
+        ensures err { OnErr result (Prepares
+            (part_of self.old.segment «record».now) self.old Reception.NoMemory self.new) }
     {
         let Some(seq) = record.number_in(self.segment) else {
             return Ok(Reception::Ignored);
@@ -54,9 +56,11 @@ impl<D: Area + Drop> SegSide<D> {
         Ok(Reception::Next(part))
     }
 
-    /// Takes back what was made ready: but that parts may be folded and that there may be more room for them, all is as it was.
+    /// Takes back what was made ready: but that parts may be folded and that there may be more room for them, all is as
+    /// it was.
     pub(crate) fn forgo(&mut self, reception: Reception)
-        ensures { (part : Option ThePart) (before : SegView D) → Prepares part before reception self.old → IsReadied before self.new }
+        ensures { (part : Option ThePart) (before : SegView D) → Prepares part before reception self.old
+            → IsReadied before self.new }
     {
         if let Reception::HeldBack(seq) = reception {
             self.forget(seq);
@@ -67,7 +71,8 @@ impl<D: Area + Drop> SegSide<D> {
     pub(crate) fn finish(&mut self, reception: Reception) -> Received
         requires here { IsSome self.old.image }
         requires ready { CanFinish self.old reception }
-        ensures takes { (part : Option ThePart) (before : SegView D) → Prepares part before reception self.old → TakesIn part before result self.new }
+        ensures takes { (part : Option ThePart) (before : SegView D) → Prepares part before reception self.old
+            → TakesIn part before result self.new }
         ensures same { self.new.standing ≡ self.old.standing }
         ensures here { IsSome self.new.image }
     {

@@ -4,7 +4,7 @@ ghost use Rattle.std.specs.Prelude.{◌≡◌, replicate};
 use lc_lock::Keyed;
 use lc_record::MAX_SEGMENT;
 
-/// Up to which number the records of each segment were dropped at their nodes, from segment 1 on. This project's own.
+/// Up to which number the records of each segment were dropped at their nodes, from segment 1 on.
 #[derive(Drop)]
 pub(crate) struct Dropped {
     pub(crate) numbers: [u64; MAX_SEGMENT as usize],

@@ -34,7 +34,8 @@ impl<D: Area + Drop> LogSide<D> {
     /// nothing more is stable or published, and the log is halted.
     pub(crate) fn flush(&mut self, stage: &Stage) -> Result<u64, NodeFault>
         requires own { IsFlusherOf stage.now self.old.flusher }
-        ensures own { IsFlusherOf stage.now self.new.flusher × (self.new.probe ≡ self.old.probe) × (self.new.round ≡ self.old.round) × (self.new.known ≡ self.old.known) }
+        ensures own { IsFlusherOf stage.now self.new.flusher × (self.new.probe ≡ self.old.probe)
+            × (self.new.round ≡ self.old.round) × (self.new.known ≡ self.old.known) }
         ensures flushed { IfOk result (λ count. Flushes stage.now.room self.old count self.new) }
         ensures published { IfOk result (λ count. Publishes self.old count self.new) }
         ensures halted { (result ≡ Err Halted) ↔ (self.old.is_halted ≡ true) }

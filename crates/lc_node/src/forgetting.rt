@@ -9,13 +9,14 @@ use lc_record::MAX_SEGMENT;
 use std::sync::Wait;
 
 impl<D: Area + Drop> Cluster<D> {
-    /// Drops the words of records that none of the nodes wants any more, from the front of what the log of a node keeps of the
-    /// rounds that have ended, as long as the next is due: all nodes have applied each of its locks, and on each of its segments it
-    /// has the number after those that were dropped, of whatever node. Answers how many records went. What is dropped is the front
-    /// of the order in which the records of all nodes merge: call it of each node in turn after a truncation, until none answers
-    /// more than 0. The records stay published, and their numbers are counted on; a cluster that has come to rest begins with the
-    /// first that is left. It waits for the locks of the segments of all nodes, one at a time, and then for those of the log and of
-    /// the numbers of what was dropped. It takes no memory. This project's own.
+    /// Drops the words of records that none of the nodes wants any more, from the front of what the log of a node keeps
+    /// of the rounds that have ended. It goes on as long as the next record is due: all nodes have applied each of its
+    /// locks, and on each of its segments it has the number after those that were dropped, of whatever node. Answers
+    /// how many records went. What is dropped is the front of the order in which the records of all nodes merge: call
+    /// it of each node in turn after a truncation, until none answers more than 0. The records stay published, and
+    /// their numbers are counted on; a cluster that has come to rest begins with the first that is left. It waits for
+    /// the locks of the segments of all nodes, one at a time, and then for those of the log and of the numbers of what
+    /// was dropped. It takes no memory. This project's own.
     pub fn trim<R: Wait>(&self, rt: &R, node: u16) -> u64
         requires { HasNode self.now node }
         ensures { TrimsAt self.now node result }

@@ -113,7 +113,8 @@ fn bytes_of<D: Area>(
     requires first { 1 ≤ segment }
     requires last { segment ≤ recovered.now.geometry.segments }
     ensures bytes { IfOk result (λ bytes. bytes.items ≡ segment_bytes recovered.now segment) }
-    ensures long { OnOk result ((page : ℕ) → page < recovered.now.geometry.pages → length (page_of recovered.now segment page).bytes ≡ 256) }
+    ensures long { OnOk result ((page : ℕ) → page < recovered.now.geometry.pages
+        → length (page_of recovered.now segment page).bytes ≡ 256) }
     ensures short { IfOk result (λ bytes. length bytes.items ≤ 262144) }
 {
     let pages = recovered.geometry().pages;

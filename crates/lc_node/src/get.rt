@@ -5,7 +5,7 @@ use crate::Work;
 use lc_tx::{Images, Tx, TxFault};
 use std::alloc::Global;
 
-/// Reads bytes of a segment; they stand in `found` after a run that was not refused. This project's own.
+/// Reads bytes of a segment; they stand in `found` after a run that was not refused.
 #[derive(Drop)]
 pub struct Get {
     pub segment: u32,

@@ -63,8 +63,8 @@ impl<D: Area + Drop> LogSide<D> {
 }
 
 impl<D: Area + Drop> Node<D> {
-    /// Whether a call of a device has failed, of the log's or of those of the segments' pages: each commit and each flush is
-    /// refused then, as `Halted`, until a recovery. One load.
+    /// Whether a call of a device has failed, of the log's or of those of the segments' pages: each commit and each
+    /// flush is refused then, as `Halted`, until a recovery. One load.
     pub fn is_halted(&self) -> bool
         ensures { IsTrue result → HasHalted D }
     {
@@ -78,16 +78,17 @@ impl<D: Area + Drop> Node<D> {
         }
     }
 
-    /// Makes the closed records stable of a log whose lock the caller has, and answers how many became so: see `flush`. It takes
-    /// no memory.
+    /// Makes the closed records stable of a log whose lock the caller has, and answers how many became so: see `flush`.
+    /// It takes no memory.
     ///
     /// # Errors
     ///
-    /// `Halted` exactly where a device failed before, and nothing has changed; `DeviceFault` where it fails now: nothing more is
-    /// stable or published, and the node is halted.
+    /// `Halted` exactly where a device failed before, and nothing has changed; `DeviceFault` where it fails now:
+    /// nothing more is stable or published, and the node is halted.
     pub fn flush_log(&self, log: &mut LogSide<D>) -> Result<u64, NodeFault>
         requires own { IsFlusherOf self.now.stage log.old.flusher }
-        ensures own { IsFlusherOf self.now.stage log.new.flusher × (log.new.probe ≡ log.old.probe) × (log.new.round ≡ log.old.round) × (log.new.known ≡ log.old.known) }
+        ensures own { IsFlusherOf self.now.stage log.new.flusher × (log.new.probe ≡ log.old.probe)
+            × (log.new.round ≡ log.old.round) × (log.new.known ≡ log.old.known) }
         ensures flushed { IfOk result (λ count. Flushes self.now.stage.room log.old count log.new) }
         ensures published { IfOk result (λ count. Publishes log.old count log.new) }
         ensures halted { (result ≡ Err Halted) ↔ (log.old.is_halted ≡ true) }
@@ -110,9 +111,11 @@ impl<D: Area + Drop> Node<D> {
     /// stable records. The log stands as it was then. `DeviceFault` where the device fails: the node is halted.
     pub fn reset_log(&self, log: &mut LogSide<D>) -> Result<u64, NodeFault>
         requires own { IsFlusherOf self.now.stage log.old.flusher × IsSeatOf self.now.stage log.old.probe }
-        ensures own { IsFlusherOf self.now.stage log.new.flusher × IsSeatOf self.now.stage log.new.probe × (log.new.known ≡ log.old.known) }
+        ensures own { IsFlusherOf self.now.stage log.new.flusher × IsSeatOf self.now.stage log.new.probe
+            × (log.new.known ≡ log.old.known) }
         ensures published { published log.new ≡ published log.old }
-        ensures emptied { IfOk result (λ round. (roomy : LogView D) × IsSameInRoom log.old roomy × Empties roomy round log.new) }
+        ensures emptied { IfOk result (λ round. (roomy : LogView D) × IsSameInRoom log.old roomy
+            × Empties roomy round log.new) }
         ensures refused { IfErr result (λ fault. ((fault ≡ NoMemory) × CanReset log.old × LacksRoom log.old log.new)
             ⊎ ((roomy : LogView D) × IsSameInRoom log.old roomy × IsUnemptied roomy fault log.new)) }
     {

@@ -1,5 +1,6 @@
 //! The locks of segments, got in ascending order and given back.
-ghost use Rattle.std.specs.Prelude.{◌≡◌, ◌+◌, ◌-◌, ◌<◌, ◌≤◌, ◌↔◌, ℕ, All, Err, Some, length, IfOk, IfErr, IfNone, IsSome, IsTrue};
+ghost use Rattle.std.specs.Prelude.{◌≡◌, ◌+◌, ◌-◌, ◌<◌, ◌≤◌, ◌↔◌, ℕ, All, Err, Some, length, IfOk, IfErr, IfNone};
+ghost use Rattle.std.specs.Prelude.{IsSome, IsTrue};
 ghost use Rattle.lc_lock.specs.Loans.{key_of};
 ghost use Rattle.lc_record.specs.Transaction.{is_member};
 ghost use Rattle.lc_tx.specs.Tx.{IsSetOf};
@@ -30,8 +31,8 @@ impl<D: Area + Drop> Node<D> {
         &self.segments[segment as usize - 1]
     }
 
-    /// Gets the locks of these segments, each once, however often it is asked for, and in ascending order, so that callers
-    /// do not wait for each other in a circle. All memory is taken before the first lock.
+    /// Gets the locks of these segments, each once, however often it is asked for, and in ascending order, so that
+    /// callers do not wait for each other in a circle. All memory is taken before the first lock.
     ///
     /// # Errors
     ///

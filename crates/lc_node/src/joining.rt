@@ -28,9 +28,9 @@ use lc_stage::CommitSeat;
 use std::alloc::Global;
 
 impl<D: Area + Drop> Cluster<D> {
-    /// The nodes of a recovered store, and the first committer's seat of each, in the order of their numbers. The token of a segment
-    /// is at the node whose number is the segment's modulo the number of nodes. All memory is taken before the store is
-    /// taken apart.
+    /// The nodes of a recovered store, and the first committer's seat of each, in the order of their numbers. The token
+    /// of a segment is at the node whose number is the segment's modulo the number of nodes. All memory is taken before
+    /// the store is taken apart.
     ///
     /// # Errors
     ///
@@ -46,7 +46,8 @@ impl<D: Area + Drop> Cluster<D> {
         ensures count { IfOk result (λ made. length made.1.items ≡ recovered.geometry.nodes) }
         ensures seats { IfOk result (λ made. (node : ℕ) (seat : Seat) → slice_get made.1.items node ≡ Some seat
             → IsSeatAt made.0 node seat × (commit_view seat ≡ newcomer recovered.geometry.words)) }
-        ensures segments { IfOk result (λ made. All (λ member. length member.node.segments.items ≡ recovered.geometry.segments) made.0.members.items) }
+        ensures segments { IfOk result (λ made.
+            All (λ member. length member.node.segments.items ≡ recovered.geometry.segments) made.0.members.items) }
         ensures back { IfErr result (λ back. (back.0 ≡ recovered) × (back.1 ≡ NoMemory)) }
     {
         let geometry = recovered.geometry();
@@ -58,7 +59,7 @@ impl<D: Area + Drop> Cluster<D> {
     }
 }
 
-/// A node's ends, each behind its lock. This project's own.
+/// A node's ends, each behind its lock.
 #[derive(Drop)]
 pub(crate) struct Post<P: Drop> {
     pub(crate) to: TicketLock<SendEnds<P>, NodeEnds<P>>,
@@ -141,8 +142,10 @@ impl<D: Area + Drop> ClusterRoom<D> {
         ensures geometry { result.0.geometry ≡ geometry }
         ensures members { length result.0.members.items ≡ vec_len nodes }
         ensures seats { length result.1.items ≡ vec_len nodes }
-        ensures each { (place : ℕ) (member : TheMember D) (seat : Seat) → slice_get result.0.members.items place ≡ Some member
-            → slice_get result.1.items place ≡ Some seat → slice_get nodes.items place ≡ Some (record { node = member.node; seat = seat }) }
+        ensures each { (place : ℕ) (member : TheMember D) (seat : Seat)
+            → slice_get result.0.members.items place ≡ Some member
+            → slice_get result.1.items place ≡ Some seat
+            → slice_get nodes.items place ≡ Some (record { node = member.node; seat = seat }) }
     {
         let ClusterRoom {
             mut posts,

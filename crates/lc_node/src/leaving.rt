@@ -11,23 +11,26 @@ use lc_token::TokenFault;
 use std::mem;
 
 impl<D: Area + Drop> SegSide<D> {
-    /// Takes the token away, to be sent, and with it the area of the pages. It is told whether all that the node reserved is
-    /// stable, and the node's number. It takes no memory.
+    /// Takes the token away, to be sent, and with it the area of the pages. It is told whether all that the node
+    /// reserved is stable, and the node's number. It takes no memory.
     ///
     /// # Errors
     ///
-    /// The token's fault `NotHere` where it is elsewhere; `Halted` where a call of the area failed, so that the token stays
-    /// until a recovery; else the token's fault `Unflushed` where not all is stable. Nothing has changed then.
+    /// The token's fault `NotHere` where it is elsewhere; `Halted` where a call of the area failed, so that the token
+    /// stays until a recovery; else the token's fault `Unflushed` where not all is stable. Nothing has changed then.
     pub(crate) fn leave(&mut self, flushed: bool, node: u16) -> Result<Travelling<D>, NodeFault>
-        ensures not_here { (result ≡ Err (NodeFault.Token (TokenFault.NotHere self.old.segment))) ↔ (self.old.standing.token ≡ None) }
+        ensures not_here { (result ≡ Err (NodeFault.Token (TokenFault.NotHere self.old.segment)))
+            ↔ (self.old.standing.token ≡ None) }
         ensures halted { (result ≡ Err NodeFault.Halted) ↔ HasFailed self.old.pages }
-        ensures unflushed { (result ≡ Err (NodeFault.Token TokenFault.Unflushed)) ↔ (IsServing self.old.pages × (flushed ≡ false)) }
+        ensures unflushed { (result ≡ Err (NodeFault.Token TokenFault.Unflushed))
+            ↔ (IsServing self.old.pages × (flushed ≡ false)) }
         ensures which { IfErr result (IsUnleft self.old.segment) }
         ensures done { IsOk result ↔ (IsServing self.old.pages × (flushed ≡ true)) }
         ensures left { IfOk result (IsJourneyFrom self.old) }
         ensures node { IfOk result (λ journey. journey.left ≡ node) }
         ensures number { IfOk result (λ journey. journey.token.seq ≡ self.old.backlog.applied) }
-        ensures fits { IfOk result (λ journey. FitsToken D.Area self.old.since journey.area journey.token (laid_parts self.old.applied self.old.base)) }
+        ensures fits { IfOk result (λ journey.
+            FitsToken D.Area self.old.since journey.area journey.token (laid_parts self.old.applied self.old.base)) }
         ensures gone { OnOk result (self.new ≡ without_token self.old) }
         ensures err { OnErr result (self.new ≡ self.old) }
     {

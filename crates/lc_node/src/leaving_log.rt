@@ -16,15 +16,15 @@ use lc_stage::{CommitSeat, FlushSeat, Stage};
 use std::alloc::{AllocError, Global};
 
 impl<D: Area + Drop> LogSide<D> {
-    /// What the log of the node with this number leaves, with all that is staged for it, and no image yet. The stage is that of
-    /// the log; the seats are all with which there were commits, and of each record of which one has a receipt it is known then
-    /// where it is.
+    /// What the log of the node with this number leaves, with all that is staged for it, and no image yet. The stage is
+    /// that of the log; the seats are all with which there were commits, and of each record of which one has a receipt
+    /// it is known then where it is.
     ///
     /// # Errors
     ///
-    /// `Mismatch` of the log, where a call of its device failed, or it has not the room of the geometry's logs for all that is
-    /// staged; and of the node's seats, where something is reserved that was not closed. `NoMemory`, where nothing else is the matter
-    /// and there are words staged. The log is gone.
+    /// `Mismatch` of the log, where a call of its device failed, or it has not the room of the geometry's logs for all
+    /// that is staged; and of the node's seats, where something is reserved that was not closed. `NoMemory`, where
+    /// nothing else is the matter and there are words staged. The log is gone.
     pub(crate) fn into_part(
         self,
         alloc: Global,

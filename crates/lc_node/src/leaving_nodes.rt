@@ -35,10 +35,12 @@ pub(crate) fn take_nodes<R: Wait, D: Area + Drop>(
     requires settled { All (IsSettledPart D.Area) tokens.old.items }
     ensures count { IfOk result (λ parts. length parts.items ≡ length nodes.items) }
     ensures each { IfOk result (λ parts. All (IsLeftNode D.Area geometry.now) parts.items) }
-    ensures received { IfOk result (λ parts. (place : ℕ) (part : ThePart D D.Area) (mine : Several Seat) → slice_get parts.items place ≡ Some part → slice_get seats.items place ≡ Some mine
+    ensures received { IfOk result (λ parts. (place : ℕ) (part : ThePart D D.Area) (mine : Several Seat)
+        → slice_get parts.items place ≡ Some part → slice_get seats.items place ≡ Some mine
         → AreReceived part.round part.stable.items part.known mine.items) }
     ensures settled { OnOk result (All (IsSettledPart D.Area) tokens.new.items) }
-    ensures refused { IfErr result (λ fault. (fault ≡ NoMemory) ⊎ Any (λ node. StopsNode node.number fault) nodes.items) }
+    ensures refused { IfErr result (λ fault. (fault ≡ NoMemory)
+        ⊎ Any (λ node. StopsNode node.number fault) nodes.items) }
 {
     let mut nodes = nodes;
     let mut seats = seats;
@@ -70,7 +72,9 @@ impl<D: Area + Drop> Node<D> {
         requires settled { All (IsSettledPart D.Area) tokens.old.items }
         ensures part { IfOk result (λ part. IsLeftNode D.Area geometry.now part) }
         ensures received { IfOk result (λ part. AreReceived part.round part.stable.items part.known seats.items) }
-        ensures behind { IfOk result (λ part. StoodBehind self.number self.segments.items part.images.items part.applied.items tokens.old.items tokens.new.items) }
+        ensures behind { IfOk result (λ part.
+            StoodBehind self.number self.segments.items part.images.items part.applied.items tokens.old.items
+            tokens.new.items) }
         ensures settled { OnOk result (All (IsSettledPart D.Area) tokens.new.items) }
         ensures refused { IfErr result (StopsNode self.number) }
     {

@@ -18,8 +18,7 @@ use std::sync::Wait;
 // One that stands there, and one that waits.
 const MOST_TOKENS: usize = 2;
 
-/// The images of all segments of a node, from segment 1 on, and of each the number up to which its records are applied. This
-/// project's own.
+/// The images of all segments of a node, from segment 1 on, and of each the number up to which its records are applied.
 #[derive(Drop)]
 pub(crate) struct SegmentImages {
     pub(crate) images: Vec<Image>,
@@ -43,7 +42,8 @@ impl SegmentImages {
         requires settled { All (IsSettledPart D.Area) tokens.old.items }
         ensures images { IfOk result (λ taken. length taken.images.items ≡ length segments.items) }
         ensures applied { IfOk result (λ taken. length taken.applied.items ≡ length segments.items) }
-        ensures behind { IfOk result (λ taken. StoodBehind node segments.items taken.images.items taken.applied.items tokens.old.items tokens.new.items) }
+        ensures behind { IfOk result (λ taken.
+            StoodBehind node segments.items taken.images.items taken.applied.items tokens.old.items tokens.new.items) }
         ensures settled { OnOk result (All (IsSettledPart D.Area) tokens.new.items) }
         ensures refused { IfErr result (λ fault. (fault ≡ Mismatch (Log node)) ⊎ (fault ≡ NoMemory)) }
     {

@@ -1,5 +1,5 @@
-//! Running nodes: the record of a receipt stands in its log, and what the threads of a cluster left is handed over, where it is
-//! not refused, as their types keep it.
+//! Running nodes: the record of a receipt stands in its log, and what the threads of a cluster left is handed over,
+//! where it is not refused, as their types keep it.
 #![tactic(auto)]
 
 mod absent;

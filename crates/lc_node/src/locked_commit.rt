@@ -34,7 +34,8 @@ impl<D: Area + Drop> Node<D> {
         requires tries { 0 < tries }
         ensures own { IsSeatOf self.now.stage seat.new }
         ensures idle { IsIdle (commit_view seat.new) }
-        ensures commits { CommitsAmong self.now (W.ran work.old work.new) segments.now tries (commit_view seat.old) (commit_view seat.new) result }
+        ensures commits { CommitsAmong self.now (W.ran work.old work.new) segments.now tries (commit_view seat.old)
+            (commit_view seat.new) result }
     {
         if let [segment] = segments {
             return self.commit_one(rt, alloc, seat, *segment, work, tries, gate);
@@ -61,7 +62,8 @@ impl<D: Area + Drop> Node<D> {
         requires tries { 0 < tries }
         ensures own { IsSeatOf self.now.stage seat.new }
         ensures idle { IsIdle (commit_view seat.new) }
-        ensures commits { CommitsAmong self.now (W.ran work.old work.new) (segment ∷ []) tries (commit_view seat.old) (commit_view seat.new) result }
+        ensures commits { CommitsAmong self.now (W.ran work.old work.new) (segment ∷ []) tries (commit_view seat.old)
+            (commit_view seat.new) result }
     {
         if !self.has(segment) {
             return Err(NodeFault::NotHere { segment });

@@ -1,5 +1,6 @@
 //! The memory of a node's log, taken before its area is.
-ghost use Rattle.std.specs.Prelude.{◌≡◌, ◌≢◌, ◌+◌, ◌*◌, ◌%◌, ◌<◌, ◌≤◌, ℕ, true, false, [], Some, length, slice_get, slice_index, vec_capacity, vec_len, IfOk};
+ghost use Rattle.std.specs.Prelude.{◌≡◌, ◌≢◌, ◌+◌, ◌*◌, ◌%◌, ◌<◌, ◌≤◌, ℕ, true, false, [], Some, length, slice_get};
+ghost use Rattle.std.specs.Prelude.{slice_index, vec_capacity, vec_len, IfOk};
 ghost use Rattle.lc_lock.specs.declared.ticket_lock.TicketLock.{TicketLock as Keeps};
 ghost use Rattle.lc_lock.specs.Loans.{key_of};
 ghost use Rattle.lc_stage.specs.Staging.{newcomer, flusher as first_flusher};
@@ -21,8 +22,8 @@ use lc_trunc::KnownClean;
 use std::alloc::{AllocError, Global};
 use std::sync::atomic::AtomicIn;
 
-/// A node's stage with the first committer's seat, and its log before the area is there. It is never dropped: it ends in
-/// `open` or in `discard`.
+/// A node's stage with the first committer's seat, and its log before the area is there. It is never dropped: it ends
+/// in `open` or in `discard`.
 pub(crate) struct LogRoom<D: Area + Drop> {
     pub(crate) stage: Stage,
     pub(crate) seat: CommitSeat,
@@ -74,8 +75,8 @@ impl<D: Area + Drop> LogRoom<D> {
         })
     }
 
-    /// The node of this number of a store of this geometry with these segments, which are all, which may have peers, and whose log is
-    /// on this area, which begins with no open gate. It takes no memory.
+    /// The node of this number of a store of this geometry with these segments, which are all, which may have peers,
+    /// and whose log is on this area, which begins with no open gate. It takes no memory.
     pub(crate) fn open(
         self,
         geometry: Geometry,
@@ -87,7 +88,8 @@ impl<D: Area + Drop> LogRoom<D> {
         requires room { 8 * self.stage.room + 8 ≤ length (D.now area) }
         requires closed { D.honest area ≡ true → slice_index (D.now area) 0 % 256 ≢ 165 }
         requires clean { D.honest area ≡ true → D.dirty area 0 ≡ false }
-        requires in_order { (place : ℕ) (lock : Keeps (SegView D) ℕ) → slice_get segments.items place ≡ Some lock → key_of lock ≡ place + 1 }
+        requires in_order { (place : ℕ) (lock : Keeps (SegView D) ℕ) → slice_get segments.items place ≡ Some lock
+            → key_of lock ≡ place + 1 }
         requires few { vec_len segments ≤ 16 }
         requires all_segments { vec_len segments ≡ geometry.segments }
         requires words { self.stage.room ≡ geometry.words }

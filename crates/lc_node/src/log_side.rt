@@ -7,10 +7,10 @@ use lc_stage::{CommitSeat, FlushSeat};
 use lc_trunc::KnownClean;
 use std::marker::Model;
 
-/// A node's log: its flusher, its device, the words of its stable records, which are what the flusher took in this round
-/// or, once it is halted, the front of that, those of the records of the rounds that have ended since it was opened, for its
-/// peers, from the first that somebody may still want, how many it has published, and what is known clean of the segments. This
-/// project's own.
+/// A node's log: its flusher, its device, how many records it has published, and what is known clean of the segments.
+/// It has the words of its stable records, which are what the flusher took in this round or, once it is halted, the
+/// front of that. For its peers it has those of the records of the rounds that have ended since it was opened, from the
+/// first that somebody may still want.
 #[derive(Drop)]
 pub struct LogSide<D: Area> {
     pub(crate) flusher: FlushSeat,

@@ -4,7 +4,8 @@ ghost use Rattle.lc_record.specs.Record.{Chain};
 ghost use Rattle.lc_stage.specs.Seats.{commit_view, IsSeatOf, IsIdle};
 ghost use Rattle.lc_node.specs.Commits.{segments_in};
 ghost use Rattle.lc_node.specs.Held.{IsFirstOutside, IsHeldOf, IsUnheld};
-ghost use Rattle.lc_node.specs.MakingRoom.{AllHeld, CommitsAlone, CommitsFirst, CommitsInRoom, CommitsOrEmpties, EndsClosed, TransactsInRoom};
+ghost use Rattle.lc_node.specs.MakingRoom.{AllHeld, CommitsAlone, CommitsFirst, CommitsInRoom, CommitsOrEmpties};
+ghost use Rattle.lc_node.specs.MakingRoom.{EndsClosed, TransactsInRoom};
 ghost use Rattle.lc_node.specs.Receipts.{HasReceipt};
 ghost use Rattle.lc_stage.specs.declared.receipt.Receipt.{Receipt as Given};
 ghost use Rattle.lc_node.specs.declared.commit_kind.Commit.TheVariants.{Flushed};
@@ -26,16 +27,17 @@ struct HeldAll<D: Area + Drop> {
 }
 
 impl<D: Area + Drop> Node<D> {
-    /// A whole transaction on these segments, as `transact` makes it, for which room is made in the log. Where the log has no
-    /// room for the record, it waits for its turn, gets the locks of all segments, so that nobody else commits, and tries again.
-    /// Where the log has no room still, it is truncated, and the work is tried once more before a lock is given back. So of all who
-    /// meet a full log one truncates, and no other commit comes between. Turns come in the order of asking, and who waits for one
-    /// holds no segment. A work that is tried again runs on what its last run made of itself.
+    /// A whole transaction on these segments, as `transact` makes it, for which room is made in the log. Where the log
+    /// has no room for the record, it waits for its turn, gets the locks of all segments, so that nobody else commits,
+    /// and tries again. Where the log has no room still, it is truncated, and the work is tried once more before a lock
+    /// is given back. So of all who meet a full log one truncates, and no other commit comes between. Turns come in the
+    /// order of asking, and who waits for one holds no segment. A work that is tried again runs on what its last run
+    /// made of itself.
     ///
     /// # Errors
     ///
-    /// Those of `transact`, and, where the log is to be emptied, of `truncate`: as `Unclean` where the token of a segment is
-    /// elsewhere. `Full` only where the emptied log has no room either.
+    /// Those of `transact`, and, where the log is to be emptied, of `truncate`: as `Unclean` where the token of a
+    /// segment is elsewhere. `Full` only where the emptied log has no room either.
     pub fn transact_in_room<R: Wait, W: Work, G: Gate>(
         &self,
         rt: &R,
@@ -52,8 +54,10 @@ impl<D: Area + Drop> Node<D> {
         requires tries { 0 < tries }
         ensures own { IsSeatOf self.now.stage result.0 }
         ensures idle { IsIdle (commit_view result.0) }
-        ensures transacts { TransactsInRoom D.Area self.now W.ran tries segments.now mode work.old work.new (commit_view seat) (commit_view result.0) result.1 }
-        ensures received { (receipt : Given) → result.1 ≡ Ok (Flushed receipt) → HasReceipt (commit_view result.0) receipt }
+        ensures transacts { TransactsInRoom D.Area self.now W.ran tries segments.now mode work.old work.new
+            (commit_view seat) (commit_view result.0) result.1 }
+        ensures received { (receipt : Given) → result.1 ≡ Ok (Flushed receipt)
+            → HasReceipt (commit_view result.0) receipt }
     {
         let mut seat = seat;
         let closed = self.commit_in_room(rt, alloc, &mut seat, segments, work, tries, gate);
@@ -76,7 +80,8 @@ impl<D: Area + Drop> Node<D> {
         ensures own { IsSeatOf self.now.stage result.0 }
         ensures idle { IsIdle (commit_view result.0) }
         ensures ends { EndsClosed mode (commit_view seat) (commit_view result.0) result.1 }
-        ensures received { (receipt : Given) → result.1 ≡ Ok (Flushed receipt) → HasReceipt (commit_view result.0) receipt }
+        ensures received { (receipt : Given) → result.1 ≡ Ok (Flushed receipt)
+            → HasReceipt (commit_view result.0) receipt }
     {
         let Mode::Flush = mode else {
             return (seat, Ok(Commit::Lazy));
@@ -88,8 +93,8 @@ impl<D: Area + Drop> Node<D> {
         }
     }
 
-    // Closes the record of a work on these segments; false where nothing was set. Those who meet a full log take turns. Without
-    // turns they would wait at the first segment, before whom each commit on that segment would wait as well.
+    // Closes the record of a work on these segments; false where nothing was set. Those who meet a full log take turns.
+    // Without turns they would wait at the first segment, before whom each commit on that segment would wait as well.
     fn commit_in_room<R: Wait, W: Work, G: Gate>(
         &self,
         rt: &R,
@@ -105,7 +110,8 @@ impl<D: Area + Drop> Node<D> {
         requires tries { 0 < tries }
         ensures own { IsSeatOf self.now.stage seat.new }
         ensures idle { IsIdle (commit_view seat.new) }
-        ensures commits { CommitsInRoom D.Area self.now W.ran tries segments.now work.old work.new (commit_view seat.old) (commit_view seat.new) result }
+        ensures commits { CommitsInRoom D.Area self.now W.ran tries segments.now work.old work.new
+            (commit_view seat.old) (commit_view seat.new) result }
     {
         match self.commit(rt, alloc, seat, segments, work, tries, gate) {
             Err(NodeFault::Full { .. }) => {
@@ -134,7 +140,8 @@ impl<D: Area + Drop> Node<D> {
         requires tries { 0 < tries }
         ensures own { IsSeatOf self.now.stage seat.new }
         ensures idle { IsIdle (commit_view seat.new) }
-        ensures commits { CommitsAlone D.Area self.now W.ran tries segments.now work.old work.new (commit_view seat.old) (commit_view seat.new) result }
+        ensures commits { CommitsAlone D.Area self.now W.ran tries segments.now work.old work.new (commit_view seat.old)
+            (commit_view seat.new) result }
     {
         let HeldAll { mut held, count } = self.hold_all(rt, alloc, segments)?;
         let done = self.commit_or_empty(rt, alloc, seat, &mut held, count, work, tries, gate);
@@ -163,7 +170,8 @@ impl<D: Area + Drop> Node<D> {
         ensures own { IsSeatOf self.now.stage seat.new }
         ensures idle { IsIdle (commit_view seat.new) }
         ensures held { All (IsHeldOf self.now) held.new.sides.items }
-        ensures commits { CommitsOrEmpties D.Area self.now W.ran tries count held.old.sides.items work.old work.new (commit_view seat.old) (commit_view seat.new) result }
+        ensures commits { CommitsOrEmpties D.Area self.now W.ran tries count held.old.sides.items work.old work.new
+            (commit_view seat.old) (commit_view seat.new) result }
     {
         match self.commit_first(alloc, seat, held, count, work, tries, gate) {
             Err(NodeFault::Full { .. }) => {
@@ -195,14 +203,16 @@ impl<D: Area + Drop> Node<D> {
         ensures idle { IsIdle (commit_view seat.new) }
         ensures held { All (IsHeldOf self.now) held.new.sides.items }
         ensures segments { segments_in held.new.sides.items ≡ segments_in held.old.sides.items }
-        ensures commits { CommitsFirst self.now (W.ran work.old work.new) tries count held.old.sides.items held.new.sides.items (commit_view seat.old) (commit_view seat.new) result }
+        ensures commits { CommitsFirst self.now
+            (W.ran work.old work.new) tries count held.old.sides.items held.new.sides.items (commit_view seat.old)
+            (commit_view seat.new) result }
     {
         let (asked, _others) = held.sides.as_mut_slice().split_at_mut(count);
         commit_on(asked, alloc, self, seat, work, tries, gate)
     }
 
-    // Gets the locks of all segments, in ascending order, and puts those of these in front, in that order too. All memory is
-    // taken before the first lock.
+    // Gets the locks of all segments, in ascending order, and puts those of these in front, in that order too. All
+    // memory is taken before the first lock.
     fn hold_all<R: Wait>(
         &self,
         rt: &R,

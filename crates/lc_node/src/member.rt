@@ -4,7 +4,8 @@ use crate::{Node, RecvEnds, SendEnds, Travelling};
 use lc_disk::Area;
 use lc_lock::TicketLock;
 
-/// A node of a cluster, and its ends of the lines to and from its peers, each behind a lock of its own. The locks know the lines.
+/// A node of a cluster, and its ends of the lines to and from its peers, each behind a lock of its own. The locks know
+/// the lines.
 #[derive(Drop)]
 pub(crate) struct Member<D: Area + Drop> {
     pub(crate) node: Node<D>,

@@ -9,7 +9,7 @@ use lc_tx::TxFault;
 use std::alloc::AllocError;
 use thiserror::Error;
 
-/// Why a call on a running node is refused. This project's own.
+/// Why a call on a running node is refused.
 #[derive(Clone, Copy, Debug, PartialEq, Eq, Error)]
 pub enum NodeFault {
     /// A transaction holds the segment.

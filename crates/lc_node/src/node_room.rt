@@ -43,8 +43,8 @@ impl<D: Area + Drop> NodeRoom<D> {
         }
     }
 
-    /// The node comes up, of a store of this geometry, with its log on this area. The segments whose tokens are its share have the
-    /// areas at their places, which are taken. It takes no memory.
+    /// The node comes up, of a store of this geometry, with its log on this area. The segments whose tokens are its
+    /// share have the areas at their places, which are taken. It takes no memory.
     pub(crate) fn open(
         self,
         geometry: Geometry,

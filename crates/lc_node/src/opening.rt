@@ -16,7 +16,7 @@ use lc_recover::Recovered;
 use lc_stage::CommitSeat;
 use std::alloc::Global;
 
-/// A node of a recovered store, and its first committer's seat. This project's own.
+/// A node of a recovered store, and its first committer's seat.
 #[derive(Drop)]
 pub(crate) struct OpenedNode<D: Area + Drop> {
     pub(crate) node: Node<D>,
@@ -24,10 +24,10 @@ pub(crate) struct OpenedNode<D: Area + Drop> {
 }
 
 impl<D: Area + Drop> Node<D> {
-    /// The one node of a recovered store, and the first committer's seat. All segments are here, and nothing is known clean
-    /// yet. It has no peer, so each truncation forgets the records of the rounds that have ended. A store of several nodes comes up
-    /// as one node too, on the log of the first, and is a store of one node then: the areas of the other logs, which a recovery
-    /// leaves empty, are dropped. All memory is taken before the store is taken apart.
+    /// The one node of a recovered store, and the first committer's seat. All segments are here, and nothing is known
+    /// clean yet. It has no peer, so each truncation forgets the records of the rounds that have ended. A store of
+    /// several nodes comes up as one node too, on the log of the first, and is a store of one node then: the areas of
+    /// the other logs, which a recovery leaves empty, are dropped. All memory is taken before the store is taken apart.
     ///
     /// # Errors
     ///
@@ -38,11 +38,14 @@ impl<D: Area + Drop> Node<D> {
     ) -> Result<(Node<D>, CommitSeat), (Recovered<D>, NodeFault)>
         requires lengths { HaveLengths D.Area recovered.geometry recovered.areas }
         requires finished { AreFinished D.Area recovered }
-        ensures seat { IfOk result (λ made. IsSeatOf made.0.stage made.1 × (commit_view made.1 ≡ newcomer recovered.geometry.words)) }
+        ensures seat { IfOk result (λ made. IsSeatOf made.0.stage made.1
+            × (commit_view made.1 ≡ newcomer recovered.geometry.words)) }
         ensures number { IfOk result (λ made. made.0.number ≡ 0) }
         ensures room { IfOk result (λ made. made.0.stage.room ≡ recovered.geometry.words) }
         ensures segments { IfOk result (λ made. length made.0.segments.items ≡ recovered.geometry.segments) }
-        ensures geometry { IfOk result (λ made. HasNumbers made.0.geometry 1 recovered.geometry.threads recovered.geometry.segments recovered.geometry.pages recovered.geometry.words) }
+        ensures geometry { IfOk result (λ made.
+            HasNumbers made.0.geometry 1 recovered.geometry.threads recovered.geometry.segments recovered.geometry.pages
+            recovered.geometry.words) }
         ensures alone { IfOk result (λ made. made.0.is_alone ≡ true) }
         ensures back { IfErr result (λ back. (back.0 ≡ recovered) × (back.1 ≡ NoMemory)) }
     {
@@ -68,9 +71,9 @@ fn with_one_node(geometry: Geometry) -> Geometry
     Geometry::new(1, threads, segments, pages, words).unwrap()
 }
 
-/// All nodes of a recovered store, in the order of their numbers, each with its own log, and the first committer's seat of
-/// each. The token of a segment is at the node whose number is the segment's modulo the number of nodes. All memory is taken
-/// before the store is taken apart.
+/// All nodes of a recovered store, in the order of their numbers, each with its own log, and the first committer's seat
+/// of each. The token of a segment is at the node whose number is the segment's modulo the number of nodes. All memory
+/// is taken before the store is taken apart.
 ///
 /// # Errors
 ///

@@ -18,8 +18,8 @@ use std::alloc::Global;
 ///
 /// # Errors
 ///
-/// `Mismatch` of the first segment of which there is no token, or whose first one has not as many pages as the geometry's segments,
-/// in an area of as many; and else of the first token that is left over. `NoMemory`.
+/// `Mismatch` of the first segment of which there is no token, or whose first one has not as many pages as the
+/// geometry's segments, in an area of as many; and else of the first token that is left over. `NoMemory`.
 pub(crate) fn in_order<D: Area + Drop>(
     alloc: Global,
     geometry: &Geometry,
@@ -27,9 +27,11 @@ pub(crate) fn in_order<D: Area + Drop>(
 ) -> Result<Vec<SegmentPart<D>>, NodeFault>
     requires settled { All (IsSettledPart D.Area) tokens.items }
     ensures count { IfOk result (λ parts. length parts.items ≡ geometry.now.segments) }
-    ensures first { IfOk result (λ parts. (place : ℕ) (part : ThePart D) → slice_get parts.items place ≡ Some part → first_of (place + 1) tokens.items ≡ Some part) }
+    ensures first { IfOk result (λ parts. (place : ℕ) (part : ThePart D) → slice_get parts.items place ≡ Some part
+        → first_of (place + 1) tokens.items ≡ Some part) }
     ensures one_each { OnOk result (length tokens.items ≡ geometry.now.segments) }
-    ensures order { IfOk result (λ parts. (place : ℕ) (part : ThePart D) → slice_get parts.items place ≡ Some part → part.token.segment ≡ place + 1) }
+    ensures order { IfOk result (λ parts. (place : ℕ) (part : ThePart D) → slice_get parts.items place ≡ Some part
+        → part.token.segment ≡ place + 1) }
     ensures pages { IfOk result (λ parts. All (KeepsPages D.Area geometry.now) parts.items) }
     ensures refused { IfErr result (StopsTokens D.Area geometry.now tokens.items) }
 {
@@ -58,7 +60,8 @@ fn take_token<D: Area + Drop>(
     ensures rest { OnOk result (TakesOut segment tokens.old.items tokens.new.items) }
     ensures one_less { OnOk result (length tokens.new.items + 1 ≡ length tokens.old.items) }
     ensures settled { OnOk result (All (IsSettledPart D.Area) tokens.new.items) }
-    ensures refused { IfErr result (λ fault. (fault ≡ Mismatch (Token segment)) × (HasToken D.Area geometry.now tokens.old.items segment → ⊥)) }
+    ensures refused { IfErr result (λ fault. (fault ≡ Mismatch (Token segment))
+        × (HasToken D.Area geometry.now tokens.old.items segment → ⊥)) }
 {
     let Some(place) = place_of(tokens.as_slice(), segment) else {
         return Err(ClusterPart::Token(segment).into());

@@ -1,6 +1,6 @@
 //! Where the area of a segment's pages is.
 
-/// The area of a segment's pages, which goes with the segment's token. This project's own.
+/// The area of a segment's pages, which goes with the segment's token.
 #[derive(Drop)]
 pub(crate) enum PageArea<D> {
     /// It is at another node.

@@ -1,5 +1,6 @@
 //! The dirty pages of a segment are written.
-ghost use Rattle.std.specs.Prelude.{◌≡◌, ◌≢◌, ◌+◌, ◌*◌, ◌≤◌, ◌<◌, ◌^◌, ℕ, List, true, [], IfOk, IfErr, OnErr, OnOk, IsSomeAnd, length, is_ok};
+ghost use Rattle.std.specs.Prelude.{◌≡◌, ◌≢◌, ◌+◌, ◌*◌, ◌≤◌, ◌<◌, ◌^◌, ℕ, List, true, [], IfOk, IfErr, OnErr, OnOk};
+ghost use Rattle.std.specs.Prelude.{IsSomeAnd, length, is_ok};
 ghost use Rattle.std.specs.Option.{ForSome};
 ghost use Rattle.std.specs.VecDeque.{deque_capacity};
 ghost use Rattle.lc_node.specs.Pages.{AreWritten, FitsToken, HaveBytes};
@@ -15,10 +16,10 @@ use lc_page::{PAGE_BYTES, PageFault, PageWrite, Writing};
 use lc_token::{Token, TokenPlace};
 use std::collections::VecDeque;
 
-/// Writes each dirty page of a segment, whose bytes these are and whose token stands here, under the token's number, and the
-/// token notes it; the other pages stay as they are. Each page makes its call number i before any makes the next, so that of
-/// the syncs with one number the first makes all pages stable. `writes` is empty, with room for a write of each page. It
-/// takes no memory.
+/// Writes each dirty page of a segment, whose bytes these are and whose token stands here, under the token's number,
+/// and the token notes it; the other pages stay as they are. Each page makes its call number i before any makes the
+/// next, so that of the syncs with one number the first makes all pages stable. `writes` is empty, with room for a
+/// write of each page. It takes no memory.
 pub(crate) fn write_dirty<D: Area>(
     area: &mut D,
     place: &mut TokenPlace,
@@ -29,7 +30,8 @@ pub(crate) fn write_dirty<D: Area>(
     requires none { writes.old.items ≡ [] }
     requires room { ForSome place.old.token (λ t. length t.pages ≤ deque_capacity writes.old) }
     ensures written { OnOk result (ForSome place.old.token (λ t. IsSomeAnd place.new.token (AreWritten t))) }
-    ensures fits { OnOk result ((since : ℕ) → IsSomeAnd place.old.token (λ t. FitsToken D.Area since area.old t bytes.now)
+    ensures fits { OnOk result ((since : ℕ)
+        → IsSomeAnd place.old.token (λ t. FitsToken D.Area since area.old t bytes.now)
         → IsSomeAnd place.new.token (λ t. FitsToken D.Area since area.new t bytes.now)) }
     ensures wrote { OnOk result (ForSome place.old.token (λ t. HaveBytes D.Area area.new t bytes.now)) }
     ensures segment { place.new.segment ≡ place.old.segment }
@@ -58,7 +60,8 @@ fn write_pages<D: Area>(
     requires fits { (since : ℕ) × FitsToken D.Area since area.old token.now bytes.now }
     requires none { writes.old.items ≡ [] }
     requires room { length token.now.pages ≤ deque_capacity writes.old }
-    ensures over { OnOk result ((since : ℕ) → FitsToken D.Area since area.old token.now bytes.now → AreOver D.Area since area.new token.now bytes.now) }
+    ensures over { OnOk result ((since : ℕ) → FitsToken D.Area since area.old token.now bytes.now
+        → AreOver D.Area since area.new token.now bytes.now) }
     ensures room { deque_capacity writes.new ≡ deque_capacity writes.old }
     ensures fault { IfErr result (λ fault. (fault ≡ DeviceFault) × (D.failures area.new ≡ D.failures area.old + 1)) }
 {
@@ -126,7 +129,8 @@ fn begin_page<D: Area>(
 fn finish_all<D: Area>(area: &mut D, writes: &mut VecDeque<Writing>) -> Result<(), PageFault>
     requires { HaveRoom D.Area area.old writes.old.items }
     ensures over { OnOk result ((since : ℕ) (token : TheToken) (bytes : List ℕ)
-        → AreUnderWay D.Area since area.old token bytes (length token.pages) writes.old.items → AreOver D.Area since area.new token bytes) }
+        → AreUnderWay D.Area since area.old token bytes (length token.pages) writes.old.items
+        → AreOver D.Area since area.new token bytes) }
     ensures room { deque_capacity writes.new ≡ deque_capacity writes.old }
     ensures fault { IfErr result (λ fault. (fault ≡ DeviceFault) × (D.failures area.new ≡ D.failures area.old + 1)) }
 {
@@ -141,8 +145,10 @@ fn finish_all<D: Area>(area: &mut D, writes: &mut VecDeque<Writing>) -> Result<(
 // The token that stands here notes that each of its dirty pages is written.
 fn note_written(place: &mut TokenPlace)
     requires few { IsSomeAnd place.old.token (λ t. length t.pages ≤ 1024) }
-    requires stable { ForSome place.old.token (λ t. (page : ℕ) → page < length t.pages → (entry_at t.pages page).stable ≤ t.seq) }
-    requires touched { ForSome place.old.token (λ t. (page : ℕ) → page < length t.pages → (entry_at t.pages page).touched ≤ t.seq) }
+    requires stable { ForSome place.old.token (λ t. (page : ℕ) → page < length t.pages
+        → (entry_at t.pages page).stable ≤ t.seq) }
+    requires touched { ForSome place.old.token (λ t. (page : ℕ) → page < length t.pages
+        → (entry_at t.pages page).touched ≤ t.seq) }
     ensures written { ForSome place.old.token (λ t. IsSomeAnd place.new.token (AreWritten t)) }
     ensures segment { place.new.segment ≡ place.old.segment }
 {

@@ -8,7 +8,6 @@ use lc_line::SendEnd;
 
 /// The sending end to a peer, how many published records were sent on it, and how many words they have: the next begins
 /// after so many words of what is published. It knows whether a message was refused because the receiving end is gone.
-/// This project's own.
 #[derive(Drop)]
 pub struct PeerEnd<P: Drop> {
     pub(crate) end: SendEnd<Message<P>>,

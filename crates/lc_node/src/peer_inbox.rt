@@ -6,8 +6,8 @@ use crate::Message;
 use lc_line::RecvEnd;
 use std::sync::Wait;
 
-/// The receiving end from a peer, and the message that was taken last where it is still to be gone on with. This project's
-/// own.
+/// The receiving end from a peer, and the message that was taken last where it is still to be gone on with. This
+/// project's own.
 #[derive(Drop)]
 pub struct PeerInbox<P: Drop> {
     pub(crate) end: RecvEnd<Message<P>>,
@@ -25,7 +25,8 @@ impl<P: Drop> PeerInbox<P> {
 
     // The next message of the peer.
     pub(crate) fn take<R: Wait>(&mut self, rt: &R) -> Option<Message<P>>
-        ensures taken { MatchOption result (taken_of self.new ≡ taken_of self.old) (λ message. taken_of self.new ≡ taken_of self.old ++ message ∷ []) }
+        ensures taken { MatchOption result (taken_of self.new ≡ taken_of self.old) (λ message. taken_of self.new
+            ≡ taken_of self.old ++ message ∷ []) }
         ensures kept { self.new.kept ≡ self.old.kept }
         ensures origin { origin_of self.new ≡ origin_of self.old }
     {
@@ -35,7 +36,9 @@ impl<P: Drop> PeerInbox<P> {
     // The message that is to be gone on with, or the next.
     pub(crate) fn next<R: Wait>(&mut self, rt: &R) -> Option<Message<P>>
         ensures again { IsSome self.old.kept → (result ≡ self.old.kept) × (taken_of self.new ≡ taken_of self.old) }
-        ensures taken { self.old.kept ≡ None → MatchOption result (taken_of self.new ≡ taken_of self.old) (λ message. taken_of self.new ≡ taken_of self.old ++ message ∷ []) }
+        ensures taken { self.old.kept ≡ None
+            → MatchOption result (taken_of self.new ≡ taken_of self.old) (λ message. taken_of self.new
+            ≡ taken_of self.old ++ message ∷ []) }
         ensures none_kept { self.new.kept ≡ None }
         ensures origin { origin_of self.new ≡ origin_of self.old }
     {

@@ -68,13 +68,19 @@ pub(crate) fn stage_work<D: Area + Drop, W: Work, G: Gate>(
     ensures own { IsSeatOf stage.now seat.new }
     ensures idle { IsIdle (commit_view seat.new) }
     ensures holds_nothing { HoldsNothing tx.new }
-    ensures staged { result ≡ Ok true → (parts : List (Option Part)) × (mid : List (HeldSides D)) × Each HasMoreRoom sides.old mid × EachThree IsCounted mid parts sides.new
-        × StagesWork (W.ran work.old work.new) node segments.now lent.old parts lent.new (commit_view seat.old) (commit_view seat.new) }
-    ensures nothing { result ≡ Ok false → (commit_view seat.new ≡ commit_view seat.old) × IsUndone the_images segments.now lent.old lent.new
-        × Ran (W.ran work.old work.new) segments.now (bytes_of the_images lent.old) (Ok tt) (bytes_of the_images lent.new) [] }
-    ensures why { IfErr result (λ fault. IsUnstaged (W.ran work.old work.new) (IsUnbegun the_images lent.old segments.now) segments.now
+    ensures staged { result ≡ Ok true → (parts : List (Option Part)) × (mid : List (HeldSides D))
+        × Each HasMoreRoom sides.old mid × EachThree IsCounted mid parts sides.new
+        × StagesWork (W.ran work.old work.new) node segments.now lent.old parts lent.new (commit_view seat.old)
+        (commit_view seat.new) }
+    ensures nothing { result ≡ Ok false → (commit_view seat.new ≡ commit_view seat.old)
+        × IsUndone the_images segments.now lent.old lent.new
+        × Ran (W.ran work.old work.new) segments.now (bytes_of the_images lent.old) (Ok tt)
+        (bytes_of the_images lent.new) [] }
+    ensures why { IfErr result (λ fault.
+        IsUnstaged (W.ran work.old work.new) (IsUnbegun the_images lent.old segments.now) segments.now
         (bytes_of the_images lent.old) stage.now.room tries (commit_view seat.new).seen fault) }
-    ensures refused { IfErr result (λ _. Sees (commit_view seat.old) (commit_view seat.new) × IsUndone the_images segments.now lent.old lent.new) }
+    ensures refused { IfErr result (λ _. Sees (commit_view seat.old) (commit_view seat.new)
+        × IsUndone the_images segments.now lent.old lent.new) }
     ensures unchanged { result ≡ Ok false → Each HasMoreRoom sides.old sides.new }
     ensures undone { IfErr result (λ _. Each HasMoreRoom sides.old sides.new) }
 {

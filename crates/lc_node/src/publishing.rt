@@ -1,5 +1,6 @@
 //! The records that a log has made stable since it was opened, read one after another.
-ghost use Rattle.std.specs.Prelude.{◌≡◌, ◌+◌, ◌^◌, ◌<◌, ◌≤◌, ◌++◌, ℕ, List, Some, length, drop, option_map, slice_get, IfSome};
+ghost use Rattle.std.specs.Prelude.{◌≡◌, ◌+◌, ◌^◌, ◌<◌, ◌≤◌, ◌++◌, ℕ, List, Some, length, drop, option_map, slice_get};
+ghost use Rattle.std.specs.Prelude.{IfSome};
 ghost use Rattle.lc_stage.specs.Staging.{AreRecords, IsOneRecord};
 ghost use Rattle.lc_node.specs.Among.{IsAmong};
 ghost use Rattle.lc_node.specs.Published.{published, records_of, IsStart, IsWhole};
@@ -18,8 +19,10 @@ impl<D: Area + Drop> LogSide<D> {
     /// over its resets is this project's own.
     pub fn record_at(&self, place: usize) -> Option<&[u64]>
         ensures whole { IsWhole self.now }
-        ensures found { (count : ℕ) → self.now.gone ≤ place → IsStart (published self.now) count place → option_map (λ words. words.now) result ≡ slice_get (published self.now) count }
-        ensures next { (count : ℕ) → IsStart (published self.now) count place → IfSome result (λ words. IsStart (published self.now) (count + 1) (place + length words.now)) }
+        ensures found { (count : ℕ) → self.now.gone ≤ place → IsStart (published self.now) count place
+            → option_map (λ words. words.now) result ≡ slice_get (published self.now) count }
+        ensures next { (count : ℕ) → IsStart (published self.now) count place
+            → IfSome result (λ words. IsStart (published self.now) (count + 1) (place + length words.now)) }
         ensures kept { IfSome result (λ _. self.now.gone ≤ place) }
         ensures some { IfSome result (λ words. 0 < length words.now) }
         ensures within { IfSome result (λ words. place + length words.now < 2 ^ 64) }
@@ -35,10 +38,11 @@ impl<D: Area + Drop> LogSide<D> {
         first_behind(self.stable.as_slice(), place - ended.len())
     }
 
-    /// The words of the stable record that stands at this place of the log's round, as a receipt names it. Where none begins there
-    /// it gives some words that are stable, or None: which, no clause says. It takes no memory.
+    /// The words of the stable record that stands at this place of the log's round, as a receipt names it. Where none
+    /// begins there it gives some words that are stable, or None: which, no clause says. It takes no memory.
     pub fn stable_at(&self, place: usize) -> Option<&[u64]>
-        ensures { (index : ℕ) (record_words : List ℕ) → IsAmong self.now.stable index place record_words → option_map (λ words. words.now) result ≡ Some record_words }
+        ensures { (index : ℕ) (record_words : List ℕ) → IsAmong self.now.stable index place record_words
+            → option_map (λ words. words.now) result ≡ Some record_words }
     {
         first_behind(self.stable.as_slice(), place)
     }
@@ -53,8 +57,10 @@ impl<D: Area + Drop> LogSide<D> {
 
 // The words from a place on that are as many as the first of them tells; None where they are not there.
 fn first_behind(words: &[u64], place: usize) -> Option<&[u64]>
-    ensures found { place ≤ length words.now → AreRecords (drop place words.now) → option_map (λ words. words.now) result ≡ slice_get (records_of (drop place words.now)) 0 }
-    ensures one { (record_words behind : List ℕ) → drop place words.now ≡ record_words ++ behind → IsOneRecord record_words → option_map (λ words. words.now) result ≡ Some record_words }
+    ensures found { place ≤ length words.now → AreRecords (drop place words.now)
+        → option_map (λ words. words.now) result ≡ slice_get (records_of (drop place words.now)) 0 }
+    ensures one { (record_words behind : List ℕ) → drop place words.now ≡ record_words ++ behind
+        → IsOneRecord record_words → option_map (λ words. words.now) result ≡ Some record_words }
     ensures some { IfSome result (λ first. 0 < length first.now) }
     ensures within { IfSome result (λ first. place + length first.now ≤ length words.now) }
 {

@@ -33,12 +33,13 @@ fn segments_locked(alloc: Global, record: &View) -> Result<SmallVec<u32, 16>, Al
 }
 
 impl<D: Area + Drop> Node<D> {
-    /// Takes a record that a peer published in, at all segments on which it has locks: it waits for their locks, ascending.
+    /// Takes a record that a peer published in, at all segments on which it has locks: it waits for their locks,
+    /// ascending.
     ///
     /// # Errors
     ///
-    /// `NoMemory`, and `NotHere` of a segment that the node does not have. Nothing has changed then, but that applied parts may be
-    /// folded.
+    /// `NoMemory`, and `NotHere` of a segment that the node does not have. Nothing has changed then, but that applied
+    /// parts may be folded.
     pub(crate) fn deliver<R: Wait>(
         &self,
         rt: &R,
@@ -61,7 +62,8 @@ impl<D: Area + Drop> Node<D> {
         Ok(delivered?.pumped())
     }
 
-    /// A token came: it arrives, or waits. It comes back where the node does not have its segment, or another waits there.
+    /// A token came: it arrives, or waits. It comes back where the node does not have its segment, or another waits
+    /// there.
     pub(crate) fn admit<R: Wait>(
         &self,
         rt: &R,
@@ -103,8 +105,8 @@ impl Delivered {
 }
 
 impl<D: Area + Drop> Node<D> {
-    /// Goes on with a message: a record is taken in at all its segments, a token arrives or waits. The message comes back where it
-    /// is refused, and where a token cannot wait.
+    /// Goes on with a message: a record is taken in at all its segments, a token arrives or waits. The message comes
+    /// back where it is refused, and where a token cannot wait.
     pub(crate) fn receive<R: Wait>(
         &self,
         rt: &R,
@@ -131,9 +133,9 @@ impl<D: Area + Drop> Node<D> {
 }
 
 impl<D: Area + Drop> RecvEnds<Travelling<D>> {
-    /// Goes on with the next message of a peer, by its place among the peers: the one that is kept, and else the next that is
-    /// taken. A record is taken in at all its segments, a token arrives or waits. A message that is refused is kept for the
-    /// next call.
+    /// Goes on with the next message of a peer, by its place among the peers: the one that is kept, and else the next
+    /// that is taken. A record is taken in at all its segments, a token arrives or waits. A message that is refused is
+    /// kept for the next call.
     pub(crate) fn pump<R: Wait>(
         &mut self,
         rt: &R,
@@ -143,10 +145,13 @@ impl<D: Area + Drop> RecvEnds<Travelling<D>> {
     ) -> Result<Pumped, NodeFault>
         requires peer { peer < length self.old.ends.items }
         ensures pumps { Pumps node.now self.old.ends.items peer result self.new.ends.items }
-        ensures gone_on { (gone : List (Sent (Journey D))) → IsGoneOn self.old.ends.items peer gone → IfOk result (λ pumped. GoesOn pumped gone self.new.ends.items peer) }
-        ensures kept { (gone : List (Sent (Journey D))) → IsGoneOn self.old.ends.items peer gone → OnErr result (IsGoneOn self.new.ends.items peer gone) }
+        ensures gone_on { (gone : List (Sent (Journey D))) → IsGoneOn self.old.ends.items peer gone
+            → IfOk result (λ pumped. GoesOn pumped gone self.new.ends.items peer) }
+        ensures kept { (gone : List (Sent (Journey D))) → IsGoneOn self.old.ends.items peer gone
+            → OnErr result (IsGoneOn self.new.ends.items peer gone) }
         ensures refused { IfErr result IsUnheld }
-        ensures others { (other : ℕ) → other ≢ peer → slice_get self.new.ends.items other ≡ slice_get self.old.ends.items other }
+        ensures others { (other : ℕ) → other ≢ peer
+            → slice_get self.new.ends.items other ≡ slice_get self.old.ends.items other }
         ensures count { length self.new.ends.items ≡ length self.old.ends.items }
         ensures lines { SameOrigins self.old.ends.items self.new.ends.items }
     {

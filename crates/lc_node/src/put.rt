@@ -6,7 +6,7 @@ use crate::Work;
 use lc_tx::{Images, Tx, TxFault};
 use std::alloc::Global;
 
-/// Sets the range of these bytes in a segment and writes them. This project's own.
+/// Sets the range of these bytes in a segment and writes them.
 #[derive(Clone, Copy)]
 pub struct Put<'a> {
     pub segment: u32,
@@ -15,11 +15,13 @@ pub struct Put<'a> {
 }
 
 impl Work for Put<'_> {
-    ghost ran = { λ old new locked before set answer after sets. (new ≡ old) × Puts old locked before set answer after sets };
+    ghost ran = { λ old new locked before set answer after sets. (new ≡ old)
+        × Puts old locked before set answer after sets };
 
     /// # Errors
     ///
-    /// Those of `Tx::set_range`, and of `Tx::write`; `OutOfSegment` too where there are more bytes than a segment may have.
+    /// Those of `Tx::set_range`, and of `Tx::write`; `OutOfSegment` too where there are more bytes than a segment may
+    /// have.
     fn run<I: Images>(
         &mut self,
         alloc: Global,

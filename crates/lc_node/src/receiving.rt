@@ -1,5 +1,6 @@
 //! What a node takes of what its peers send it.
-ghost use Rattle.std.specs.Prelude.{◌≡◌, ◌≢◌, ◌<◌, ◌++◌, ◌∷◌, [], ℕ, length, slice_get, MatchOption, IsSome, Some, None};
+ghost use Rattle.std.specs.Prelude.{◌≡◌, ◌≢◌, ◌<◌, ◌++◌, ◌∷◌, [], ℕ, length, slice_get, MatchOption, IsSome, Some};
+ghost use Rattle.std.specs.Prelude.{None};
 ghost use Rattle.lc_node.specs.Peers.{place_of};
 ghost use Rattle.lc_node.specs.Receiving.{taken_at, kept_at, SameOrigins};
 
@@ -8,13 +9,19 @@ use crate::{Message, RecvEnds};
 use std::sync::Wait;
 
 impl<P: Drop> RecvEnds<P> {
-    /// Takes the next message of a peer, which is another node, by its number; `None` where none was there at one moment of
-    /// the call, which no clause says. It waits for no message to be sent, and takes no memory.
+    /// Takes the next message of a peer, which is another node, by its number; `None` where none was there at one
+    /// moment of the call, which no clause says. It waits for no message to be sent, and takes no memory.
     pub fn take<R: Wait>(&mut self, rt: &R, from: u16) -> Option<Message<P>>
         requires peer { (self.old.node ≢ from) × (place_of self.old.node from < length self.old.ends.items) }
-        ensures taken { MatchOption result (taken_at self.new.ends.items (place_of self.old.node from) ≡ taken_at self.old.ends.items (place_of self.old.node from)) (λ message. taken_at self.new.ends.items (place_of self.old.node from) ≡ taken_at self.old.ends.items (place_of self.old.node from) ++ message ∷ []) }
-        ensures kept { kept_at self.new.ends.items (place_of self.old.node from) ≡ kept_at self.old.ends.items (place_of self.old.node from) }
-        ensures others { (other : ℕ) → other ≢ place_of self.old.node from → slice_get self.new.ends.items other ≡ slice_get self.old.ends.items other }
+        ensures taken { MatchOption result
+            (taken_at self.new.ends.items (place_of self.old.node from)
+            ≡ taken_at self.old.ends.items (place_of self.old.node from)) (λ message.
+            taken_at self.new.ends.items (place_of self.old.node from)
+            ≡ taken_at self.old.ends.items (place_of self.old.node from) ++ message ∷ []) }
+        ensures kept { kept_at self.new.ends.items (place_of self.old.node from)
+            ≡ kept_at self.old.ends.items (place_of self.old.node from) }
+        ensures others { (other : ℕ) → other ≢ place_of self.old.node from
+            → slice_get self.new.ends.items other ≡ slice_get self.old.ends.items other }
         ensures count { length self.new.ends.items ≡ length self.old.ends.items }
         ensures lines { SameOrigins self.old.ends.items self.new.ends.items }
         ensures node { self.new.node ≡ self.old.node }
@@ -22,14 +29,22 @@ impl<P: Drop> RecvEnds<P> {
         self.take_at(rt, place_of(self.node, from))
     }
 
-    /// The message of a peer, by its number, that is to be gone on with: the kept one, and else the next, which is taken. It
-    /// waits for no message to be sent, and takes no memory.
+    /// The message of a peer, by its number, that is to be gone on with: the kept one, and else the next, which is
+    /// taken. It waits for no message to be sent, and takes no memory.
     pub fn next<R: Wait>(&mut self, rt: &R, from: u16) -> Option<Message<P>>
         requires peer { (self.old.node ≢ from) × (place_of self.old.node from < length self.old.ends.items) }
-        ensures again { IsSome (kept_at self.old.ends.items (place_of self.old.node from)) → (result ≡ kept_at self.old.ends.items (place_of self.old.node from)) × (taken_at self.new.ends.items (place_of self.old.node from) ≡ taken_at self.old.ends.items (place_of self.old.node from)) }
-        ensures taken { kept_at self.old.ends.items (place_of self.old.node from) ≡ None → MatchOption result (taken_at self.new.ends.items (place_of self.old.node from) ≡ taken_at self.old.ends.items (place_of self.old.node from)) (λ message. taken_at self.new.ends.items (place_of self.old.node from) ≡ taken_at self.old.ends.items (place_of self.old.node from) ++ message ∷ []) }
+        ensures again { IsSome (kept_at self.old.ends.items (place_of self.old.node from))
+            → (result ≡ kept_at self.old.ends.items (place_of self.old.node from))
+            × (taken_at self.new.ends.items (place_of self.old.node from)
+            ≡ taken_at self.old.ends.items (place_of self.old.node from)) }
+        ensures taken { kept_at self.old.ends.items (place_of self.old.node from) ≡ None
+            → MatchOption result (taken_at self.new.ends.items (place_of self.old.node from)
+            ≡ taken_at self.old.ends.items (place_of self.old.node from)) (λ message.
+            taken_at self.new.ends.items (place_of self.old.node from)
+            ≡ taken_at self.old.ends.items (place_of self.old.node from) ++ message ∷ []) }
         ensures none_kept { kept_at self.new.ends.items (place_of self.old.node from) ≡ None }
-        ensures others { (other : ℕ) → other ≢ place_of self.old.node from → slice_get self.new.ends.items other ≡ slice_get self.old.ends.items other }
+        ensures others { (other : ℕ) → other ≢ place_of self.old.node from
+            → slice_get self.new.ends.items other ≡ slice_get self.old.ends.items other }
         ensures count { length self.new.ends.items ≡ length self.old.ends.items }
         ensures lines { SameOrigins self.old.ends.items self.new.ends.items }
         ensures node { self.new.node ≡ self.old.node }
@@ -42,8 +57,10 @@ impl<P: Drop> RecvEnds<P> {
         requires peer { (self.old.node ≢ from) × (place_of self.old.node from < length self.old.ends.items) }
         requires none { kept_at self.old.ends.items (place_of self.old.node from) ≡ None }
         ensures kept { kept_at self.new.ends.items (place_of self.old.node from) ≡ Some message }
-        ensures taken { taken_at self.new.ends.items (place_of self.old.node from) ≡ taken_at self.old.ends.items (place_of self.old.node from) }
-        ensures others { (other : ℕ) → other ≢ place_of self.old.node from → slice_get self.new.ends.items other ≡ slice_get self.old.ends.items other }
+        ensures taken { taken_at self.new.ends.items (place_of self.old.node from)
+            ≡ taken_at self.old.ends.items (place_of self.old.node from) }
+        ensures others { (other : ℕ) → other ≢ place_of self.old.node from
+            → slice_get self.new.ends.items other ≡ slice_get self.old.ends.items other }
         ensures count { length self.new.ends.items ≡ length self.old.ends.items }
         ensures lines { SameOrigins self.old.ends.items self.new.ends.items }
         ensures node { self.new.node ≡ self.old.node }
@@ -56,9 +73,12 @@ impl<P: Drop> RecvEnds<P> {
     // Takes the next message of a peer, by its place among the peers.
     fn take_at<R: Wait>(&mut self, rt: &R, peer: usize) -> Option<Message<P>>
         requires peer { peer < length self.old.ends.items }
-        ensures taken { MatchOption result (taken_at self.new.ends.items peer ≡ taken_at self.old.ends.items peer) (λ message. taken_at self.new.ends.items peer ≡ taken_at self.old.ends.items peer ++ message ∷ []) }
+        ensures taken { MatchOption result
+            (taken_at self.new.ends.items peer ≡ taken_at self.old.ends.items peer) (λ message.
+            taken_at self.new.ends.items peer ≡ taken_at self.old.ends.items peer ++ message ∷ []) }
         ensures kept { kept_at self.new.ends.items peer ≡ kept_at self.old.ends.items peer }
-        ensures others { (other : ℕ) → other ≢ peer → slice_get self.new.ends.items other ≡ slice_get self.old.ends.items other }
+        ensures others { (other : ℕ) → other ≢ peer
+            → slice_get self.new.ends.items other ≡ slice_get self.old.ends.items other }
         ensures count { length self.new.ends.items ≡ length self.old.ends.items }
         ensures lines { SameOrigins self.old.ends.items self.new.ends.items }
         ensures node { self.new.node ≡ self.old.node }
@@ -70,10 +90,15 @@ impl<P: Drop> RecvEnds<P> {
     /// The message of a peer, by its place among the peers, that is to be gone on with.
     pub(crate) fn next_at<R: Wait>(&mut self, rt: &R, peer: usize) -> Option<Message<P>>
         requires peer { peer < length self.old.ends.items }
-        ensures again { IsSome (kept_at self.old.ends.items peer) → (result ≡ kept_at self.old.ends.items peer) × (taken_at self.new.ends.items peer ≡ taken_at self.old.ends.items peer) }
-        ensures taken { kept_at self.old.ends.items peer ≡ None → MatchOption result (taken_at self.new.ends.items peer ≡ taken_at self.old.ends.items peer) (λ message. taken_at self.new.ends.items peer ≡ taken_at self.old.ends.items peer ++ message ∷ []) }
+        ensures again { IsSome (kept_at self.old.ends.items peer)
+            → (result ≡ kept_at self.old.ends.items peer)
+            × (taken_at self.new.ends.items peer ≡ taken_at self.old.ends.items peer) }
+        ensures taken { kept_at self.old.ends.items peer ≡ None
+            → MatchOption result (taken_at self.new.ends.items peer ≡ taken_at self.old.ends.items peer) (λ message.
+            taken_at self.new.ends.items peer ≡ taken_at self.old.ends.items peer ++ message ∷ []) }
         ensures none_kept { kept_at self.new.ends.items peer ≡ None }
-        ensures others { (other : ℕ) → other ≢ peer → slice_get self.new.ends.items other ≡ slice_get self.old.ends.items other }
+        ensures others { (other : ℕ) → other ≢ peer
+            → slice_get self.new.ends.items other ≡ slice_get self.old.ends.items other }
         ensures count { length self.new.ends.items ≡ length self.old.ends.items }
         ensures lines { SameOrigins self.old.ends.items self.new.ends.items }
         ensures node { self.new.node ≡ self.old.node }
@@ -88,7 +113,8 @@ impl<P: Drop> RecvEnds<P> {
         requires none { kept_at self.old.ends.items peer ≡ None }
         ensures kept { kept_at self.new.ends.items peer ≡ Some message }
         ensures taken { taken_at self.new.ends.items peer ≡ taken_at self.old.ends.items peer }
-        ensures others { (other : ℕ) → other ≢ peer → slice_get self.new.ends.items other ≡ slice_get self.old.ends.items other }
+        ensures others { (other : ℕ) → other ≢ peer
+            → slice_get self.new.ends.items other ≡ slice_get self.old.ends.items other }
         ensures count { length self.new.ends.items ≡ length self.old.ends.items }
         ensures lines { SameOrigins self.old.ends.items self.new.ends.items }
         ensures node { self.new.node ≡ self.old.node }

@@ -1,5 +1,6 @@
 //! A record that a peer published comes to the segments of a node.
-ghost use Rattle.std.specs.Prelude.{◌≡◌, ◌≤◌, ◌<◌, ◌↔◌, ℕ, List, [], All, Some, IsSome, IsTrue, IfOk, IfErr, OnOk, OnErr, length, slice_get, vec_capacity, true, false};
+ghost use Rattle.std.specs.Prelude.{◌≡◌, ◌≤◌, ◌<◌, ◌↔◌, ℕ, List, [], All, Some, IsSome, IsTrue, IfOk, IfErr, OnOk};
+ghost use Rattle.std.specs.Prelude.{OnErr, length, slice_get, vec_capacity, true, false};
 ghost use Rattle.lc_record.specs.declared.record.Record.{Record as Spelled};
 ghost use Rattle.lc_node.specs.Delivering.{Answers, HasArrived, IsDelivered, IsReadiedSide};
 ghost use Rattle.lc_node.specs.Each.{Each, EachThree};
@@ -19,16 +20,19 @@ use lc_token::Received;
 use std::alloc::Global;
 
 impl<D: Area + Drop> Held<D> {
-    /// Takes a record that a peer published in at each of these segments, and then lets the tokens arrive that wait there and may. All
-    /// memory is taken before the record changes anything: a refusal, for want of it alone, leaves all as it was, but that
-    /// applied parts may be folded. Log-based coherency: Feeley et al., OSDI 1994.
+    /// Takes a record that a peer published in at each of these segments, and then lets the tokens arrive that wait
+    /// there and may. All memory is taken before the record changes anything: a refusal, for want of it alone, leaves
+    /// all as it was, but that applied parts may be folded. Log-based coherency: Feeley et al., OSDI 1994.
     pub(crate) fn deliver(&mut self, alloc: Global, record: &View) -> Result<Delivered, NodeFault>
         requires here { All (λ h. IsSome h.side.image) self.old.sides.items }
         ensures delivered { OnOk result (Each (IsDelivered «record».now) self.old.sides.items self.new.sides.items) }
-        ensures first { IfOk result (λ done. (h g : Side D) → slice_get self.old.sides.items 0 ≡ Some h → slice_get self.new.sides.items 0 ≡ Some g → Answers «record».now h done.first g) }
+        ensures first { IfOk result (λ done. (h g : Side D) → slice_get self.old.sides.items 0 ≡ Some h
+            → slice_get self.new.sides.items 0 ≡ Some g → Answers «record».now h done.first g) }
         ensures arrived { IfOk result (λ done. IsTrue done.arrived ↔ ((place : ℕ) × (h : Side D) × (g : Side D)
-            × (slice_get self.old.sides.items place ≡ Some h) × (slice_get self.new.sides.items place ≡ Some g) × HasArrived h g)) }
-        ensures held { (node : TheNode D) → All (IsHeldOf node) self.old.sides.items → All (IsHeldOf node) self.new.sides.items }
+            × (slice_get self.old.sides.items place ≡ Some h) × (slice_get self.new.sides.items place ≡ Some g)
+            × HasArrived h g)) }
+        ensures held { (node : TheNode D) → All (IsHeldOf node) self.old.sides.items
+            → All (IsHeldOf node) self.new.sides.items }
         ensures err { OnErr result (Each IsReadiedSide self.old.sides.items self.new.sides.items) }
         ensures which { IfErr result (λ fault. fault ≡ NoMemory) }
         ensures memory { OnErr result (0 < length self.old.sides.items) }
@@ -70,7 +74,8 @@ fn prepare_all<D: Area + Drop>(
 // Takes back what was made ready at each.
 fn forgo_all<D: Area + Drop>(sides: &mut Vec<HeldSide<D>>, receptions: Vec<Reception>)
     requires { length receptions.items ≡ length sides.old.items }
-    ensures { (r : Spelled) (before : List (Side D)) → EachThree (IsPrepared r) before receptions.items sides.old.items → Each IsReadiedSide before sides.new.items }
+    ensures { (r : Spelled) (before : List (Side D)) → EachThree (IsPrepared r) before receptions.items sides.old.items
+        → Each IsReadiedSide before sides.new.items }
 {
     let mut receptions = receptions;
     while let Some(reception) = receptions.pop() {
@@ -83,9 +88,13 @@ fn forgo_all<D: Area + Drop>(sides: &mut Vec<HeldSide<D>>, receptions: Vec<Recep
 fn finish_all<D: Area + Drop>(sides: &mut Vec<HeldSide<D>>, receptions: Vec<Reception>) -> Delivered
     requires here { All (λ h. IsSome h.side.image) sides.old.items }
     requires ready { Each (λ h reception. CanFinish h.side reception) sides.old.items receptions.items }
-    ensures delivered { (r : Spelled) (before : List (Side D)) → EachThree (IsPrepared r) before receptions.items sides.old.items → Each (IsDelivered r) before sides.new.items }
-    ensures first { (r : Spelled) (before : List (Side D)) → EachThree (IsPrepared r) before receptions.items sides.old.items
-        → (h g : Side D) → slice_get before 0 ≡ Some h → slice_get sides.new.items 0 ≡ Some g → Answers r h result.first g }
+    ensures delivered { (r : Spelled) (before : List (Side D))
+        → EachThree (IsPrepared r) before receptions.items sides.old.items
+        → Each (IsDelivered r) before sides.new.items }
+    ensures first { (r : Spelled) (before : List (Side D))
+        → EachThree (IsPrepared r) before receptions.items sides.old.items
+        → (h g : Side D) → slice_get before 0 ≡ Some h → slice_get sides.new.items 0 ≡ Some g
+        → Answers r h result.first g }
     ensures arrived { (IsTrue result.arrived) ↔ ((place : ℕ) × (h : Side D) × (g : Side D)
         × (slice_get sides.old.items place ≡ Some h) × (slice_get sides.new.items place ≡ Some g) × HasArrived h g) }
     ensures here { All (λ h. IsSome h.side.image) sides.new.items }

@@ -1,7 +1,7 @@
 //! What is made ready for a record at a segment.
 use lc_record::Part;
 
-/// What is made ready for a record that a peer published, at a segment, before it is applied at any. This project's own.
+/// What is made ready for a record that a peer published, at a segment, before it is applied at any.
 #[derive(Drop)]
 pub(crate) enum Reception {
     /// It is known here, or has no lock on the segment.

@@ -6,7 +6,7 @@ use crate::PeerInbox;
 use crate::wiring::NodeEnds;
 use lc_lock::Keyed;
 
-/// The receiving end from each peer of a node, whose number it knows. It stands behind a lock of its own. This project's own.
+/// The receiving end from each peer of a node, whose number it knows. It stands behind a lock of its own.
 #[derive(Drop)]
 pub struct RecvEnds<P: Drop> {
     pub(crate) node: u16,

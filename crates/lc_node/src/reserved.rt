@@ -26,13 +26,15 @@ impl<D: Area + Drop> LogSide<D> {
         self.round * ROUND_TAIL + self.stable.len() as u64
     }
 
-    /// Whether all that was reserved is stable: the tail, in one load, is the end of the stable records. It takes no memory. The
-    /// stage is that of the log.
+    /// Whether all that was reserved is stable: the tail, in one load, is the end of the stable records. It takes no
+    /// memory. The stage is that of the log.
     pub(crate) fn is_flushed(&mut self, stage: &Stage) -> bool
         requires own { IsFlusherOf stage.now self.old.flusher × IsSeatOf stage.now self.old.probe }
         ensures own { IsFlusherOf stage.now self.new.flusher × IsSeatOf stage.now self.new.probe }
-        ensures flushed { IsTrue result ↔ ((commit_view self.new.probe).seen ≡ self.old.round * 65536 + length self.old.stable) }
-        ensures loads { commit_view self.new.probe ≡ saw (commit_view self.new.probe).seen (commit_view self.old.probe) }
+        ensures flushed { IsTrue result
+            ↔ ((commit_view self.new.probe).seen ≡ self.old.round * 65536 + length self.old.stable) }
+        ensures loads { commit_view self.new.probe
+            ≡ saw (commit_view self.new.probe).seen (commit_view self.old.probe) }
         ensures same { self.new ≡ record self.old { probe = self.new.probe } }
     {
         let tail = stage.tail(&mut self.probe);

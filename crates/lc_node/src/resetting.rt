@@ -6,7 +6,8 @@ ghost use Rattle.lc_trunc.specs.KnownClean.{known as known_of};
 ghost use Rattle.lc_trunc.specs.Reset.{IsAbove};
 ghost use Rattle.lc_node.specs.Ended.{HasRoom};
 ghost use Rattle.lc_node.specs.Published.{published};
-ghost use Rattle.lc_node.specs.Resets.{Begins, CanReset, Empties, FailsToBegin, IsReady, IsSealed, IsSpent, IsUnemptied, IsUnfit, IsUnsealed, Seals};
+ghost use Rattle.lc_node.specs.Resets.{Begins, CanReset, Empties, FailsToBegin, IsReady, IsSealed, IsSpent};
+ghost use Rattle.lc_node.specs.Resets.{IsUnemptied, IsUnfit, IsUnsealed, Seals};
 ghost use Rattle.lc_node.specs.declared.node_fault.NodeFault.TheVariants.{RoundsSpent, Unclean};
 
 use crate::log_state::LogState;
@@ -35,13 +36,15 @@ impl<D: Area + Drop> LogSide<D> {
     pub(crate) fn reset(&mut self, stage: &Stage) -> Result<u64, NodeFault>
         requires own { IsFlusherOf stage.now self.old.flusher × IsSeatOf stage.now self.old.probe }
         requires room { HasRoom self.old }
-        ensures own { IsFlusherOf stage.now self.new.flusher × IsSeatOf stage.now self.new.probe × (self.new.known ≡ self.old.known) }
+        ensures own { IsFlusherOf stage.now self.new.flusher × IsSeatOf stage.now self.new.probe
+            × (self.new.known ≡ self.old.known) }
         ensures published { published self.new ≡ published self.old }
         ensures emptied { IfOk result (λ round. Empties self.old round self.new) }
         ensures refused { IfErr result (λ fault. IsUnemptied self.old fault self.new) }
         ensures spent { (result ≡ Err RoundsSpent) ↔ (IsReady self.old × IsSpent self.old) }
         ensures unclean { (segment seq : ℕ) → (result ≡ Err (Unclean segment seq))
-            ↔ (IsReady self.old × ¬ IsSpent self.old × IsLeastPair (IsAbove self.old.stable (known_of self.old.known)) segment seq) }
+            ↔ (IsReady self.old × ¬ IsSpent self.old
+            × IsLeastPair (IsAbove self.old.stable (known_of self.old.known)) segment seq) }
     {
         if !self.is_due()? {
             return Ok(self.round);
@@ -52,7 +55,8 @@ impl<D: Area + Drop> LogSide<D> {
 
     /// Whether the log has a stable record. It is refused where a reset may not take them away.
     pub(crate) fn is_due(&self) -> Result<bool, NodeFault>
-        ensures due { IfOk result (λ is_due. MatchBool is_due (CanReset self.now) ((self.now.is_halted ≡ false) × (self.now.stable ≡ []))) }
+        ensures due { IfOk result (λ is_due.
+            MatchBool is_due (CanReset self.now) ((self.now.is_halted ≡ false) × (self.now.stable ≡ []))) }
         ensures refused { IfErr result (λ fault. IsUnfit self.now fault) }
     {
         let LogState::Idle(_) = &self.log else {
@@ -100,7 +104,8 @@ impl<D: Area + Drop> LogSide<D> {
         requires can { CanReset self.old }
         requires sealed { IsSealed self.old }
         requires room { HasRoom self.old }
-        ensures own { IsFlusherOf stage.now self.new.flusher × IsSeatOf stage.now self.new.probe × (self.new.known ≡ self.old.known) }
+        ensures own { IsFlusherOf stage.now self.new.flusher × IsSeatOf stage.now self.new.probe
+            × (self.new.known ≡ self.old.known) }
         ensures published { published self.new ≡ published self.old }
         ensures begins { IfOk result (λ round. Begins self.old round self.new) }
         ensures fails { IfErr result (λ fault. FailsToBegin self.old fault self.new) }

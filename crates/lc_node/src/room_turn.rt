@@ -3,7 +3,8 @@ ghost use Rattle.std.specs.Prelude.{◌≡◌};
 
 use lc_lock::Keyed;
 
-/// The turn to make room in a full log: one thread at a time has it. A lock gives it in the order of asking. This project's own.
+/// The turn to make room in a full log: one thread at a time has it. A lock gives it in the order of asking. This
+/// project's own.
 #[derive(Drop)]
 pub struct RoomTurn;
 

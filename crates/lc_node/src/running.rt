@@ -80,8 +80,10 @@ impl<D: Area + Drop> Node<D> {
         ensures same { IsSeatOf self.now.stage result.0 × (commit_view result.0 ≡ commit_view seat) }
         ensures log { IsFlusherOf self.now.stage log.new.flusher × IsSameLog log.old log.new }
         ensures here { receipt.round ≡ log.old.round → (index : ℕ) × (result.1 ≡ Here index)
-            × ((r : Run) → Owns (commit_view seat).receipts r → IsReceiptOf r receipt → IsAmong log.old.stable index r.place r.words) }
-        ensures earlier { receipt.round ≢ log.old.round → (result.1 ≡ Earlier log.old.round) × (receipt.round < log.old.round) }
+            × ((r : Run) → Owns (commit_view seat).receipts r → IsReceiptOf r receipt
+            → IsAmong log.old.stable index r.place r.words) }
+        ensures earlier { receipt.round ≢ log.old.round
+            → (result.1 ≡ Earlier log.old.round) × (receipt.round < log.old.round) }
     {
         log.confirm(&self.stage, seat, receipt)
     }

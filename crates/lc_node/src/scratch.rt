@@ -7,7 +7,7 @@ use lc_tx::Tx;
 use std::alloc::Global;
 
 /// A transaction that is idle, the words of a record and the slots of images, kept from one commit to the next, so
-/// that a commit takes no memory where one before it was as large. This project's own.
+/// that a commit takes no memory where one before it was as large.
 #[derive(Drop)]
 pub(crate) struct Scratch {
     pub(crate) tx: Tx,

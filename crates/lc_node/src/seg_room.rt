@@ -16,7 +16,8 @@ use lc_lock::TicketLock;
 use lc_recover::Recovered;
 use std::alloc::{AllocError, Global};
 
-/// A segment of a recovered store, and the lock that waits for it. It is never dropped: it ends in `fill_all` or in `discard`.
+/// A segment of a recovered store, and the lock that waits for it. It is never dropped: it ends in `fill_all` or in
+/// `discard`.
 pub(crate) struct SegRoom<D: Area + Drop> {
     pub(crate) fresh: FreshSegment<D>,
     pub(crate) lock: Vacant<BoxedSide<D>, u32>,
@@ -81,7 +82,8 @@ pub(crate) fn rooms_of<D: Area + Drop>(
     recovered: &Recovered<D>,
 ) -> Result<Vec<SegRoom<D>>, AllocError>
     ensures count { IfOk result (λ rooms. vec_len rooms ≡ recovered.now.geometry.segments) }
-    ensures each { IfOk result (λ rooms. (place : ℕ) (room : Room D) → slice_get rooms.items place ≡ Some room → IsRoomOf recovered.now (place + 1) room) }
+    ensures each { IfOk result (λ rooms. (place : ℕ) (room : Room D) → slice_get rooms.items place ≡ Some room
+        → IsRoomOf recovered.now (place + 1) room) }
 {
     let segments = recovered.geometry().segments;
     let mut rooms = Vec::with_capacity(alloc, segments as usize)?;
@@ -97,8 +99,8 @@ pub(crate) fn rooms_of<D: Area + Drop>(
     Ok(rooms)
 }
 
-/// The segments come up at a node, in the room that is there for their locks. Those whose tokens are its share have the areas
-/// at their places, which are taken.
+/// The segments come up at a node, in the room that is there for their locks. Those whose tokens are its share have the
+/// areas at their places, which are taken.
 pub(crate) fn fill_all<D: Area + Drop>(
     share: Share,
     rooms: Vec<SegRoom<D>>,
@@ -112,7 +114,8 @@ pub(crate) fn fill_all<D: Area + Drop>(
     requires empty { locks.items ≡ [] }
     requires space { vec_len rooms ≤ vec_capacity locks }
     ensures count { vec_len result ≡ vec_len rooms }
-    ensures in_order { (place : ℕ) (lock : Keeps (SegView D) ℕ) → slice_get result.items place ≡ Some lock → key_of lock ≡ place + 1 }
+    ensures in_order { (place : ℕ) (lock : Keeps (SegView D) ℕ) → slice_get result.items place ≡ Some lock
+        → key_of lock ≡ place + 1 }
     ensures places { length pages.new ≡ length pages.old }
     ensures shared { AreShared share.number share.nodes pages.old pages.new }
 {

@@ -26,7 +26,9 @@ impl<P: Drop> PeerEnd<P> {
     pub(crate) fn send_record<R: Wait>(&mut self, rt: &R, words: Vec<u64>) -> bool
         requires some { 0 < length words.items }
         requires within { self.old.place + length words.items < 2 ^ 64 }
-        ensures sent { MatchBool result (sent_to self.new ≡ sent_to self.old ++ record_message (count_of self.old + 1) words ∷ []) (sent_to self.new ≡ sent_to self.old) }
+        ensures sent { MatchBool result (sent_to self.new
+            ≡ sent_to self.old ++ record_message (count_of self.old + 1) words ∷ [])
+            (sent_to self.new ≡ sent_to self.old) }
         ensures cut_off { result ≡ false → IsCutOff self.new }
         ensures line { line_of self.new ≡ line_of self.old }
     {

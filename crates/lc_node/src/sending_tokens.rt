@@ -16,12 +16,14 @@ impl<P: Drop> SendEnds<P> {
     /// Log-based coherency: Feeley et al., OSDI 1994; the token in the line of the records is this project's own.
     pub fn send_token<R: Wait>(&mut self, rt: &R, peer: usize, token: P) -> Result<(), Refused<P>>
         requires peer { peer < length self.old.ends.items }
-        ensures sent { OnOk result (sent_at self.new.ends.items peer ≡ sent_at self.old.ends.items peer ++ Token token ∷ []) }
+        ensures sent { OnOk result (sent_at self.new.ends.items peer
+            ≡ sent_at self.old.ends.items peer ++ Token token ∷ []) }
         ensures none { OnErr result (sent_at self.new.ends.items peer ≡ sent_at self.old.ends.items peer) }
         ensures back { IfErr result (λ refused. message_of refused ≡ token) }
         ensures full { IfErr result (λ refused. IsFull refused → WasFullAt self.old.ends.items peer) }
         ensures cut_off { OnErr result (IsCutOffAt self.new.ends.items peer) }
-        ensures others { (other : ℕ) → other ≢ peer → slice_get self.new.ends.items other ≡ slice_get self.old.ends.items other }
+        ensures others { (other : ℕ) → other ≢ peer
+            → slice_get self.new.ends.items other ≡ slice_get self.old.ends.items other }
         ensures records { SameRecords self.old.ends.items self.new.ends.items }
         ensures lines { SameLines self.old.ends.items self.new.ends.items }
         ensures count { length self.new.ends.items ≡ length self.old.ends.items }

@@ -16,8 +16,8 @@ use std::sync::Wait;
 use std::thread;
 
 impl<D: Area + Drop> LogSide<D> {
-    /// A receipt of the seat's last closed record, by round and place, exactly where the end that was published last has
-    /// reached its end. It takes no memory. The stage is that of the log and of the seat.
+    /// A receipt of the seat's last closed record, by round and place, exactly where the end that was published last
+    /// has reached its end. It takes no memory. The stage is that of the log and of the seat.
     pub(crate) fn durable(
         &mut self,
         stage: &Stage,
@@ -28,8 +28,12 @@ impl<D: Area + Drop> LogSide<D> {
         ensures same { IsSeatOf stage.now result.0 }
         ensures idle { IsIdle (commit_view result.0) }
         ensures log { IsFlusherOf stage.now self.new.flusher × IsSameLog self.old self.new }
-        ensures some { IfSome result.1 (λ receipt. HasReached (flush_view self.old.flusher).published (commit_view seat) × IsReceiptOf (latest (commit_view seat).mine) receipt × (commit_view result.0 ≡ with_receipt (learns_durable (flush_view self.old.flusher).published (commit_view seat)))) }
-        ensures none { IfNone result.1 (¬ HasReached (flush_view self.old.flusher).published (commit_view seat) × (commit_view result.0 ≡ learns_durable (flush_view self.old.flusher).published (commit_view seat))) }
+        ensures some { IfSome result.1 (λ receipt. HasReached (flush_view self.old.flusher).published (commit_view seat)
+            × IsReceiptOf (latest (commit_view seat).mine) receipt
+            × (commit_view result.0
+            ≡ with_receipt (learns_durable (flush_view self.old.flusher).published (commit_view seat)))) }
+        ensures none { IfNone result.1 (¬ HasReached (flush_view self.old.flusher).published (commit_view seat)
+            × (commit_view result.0 ≡ learns_durable (flush_view self.old.flusher).published (commit_view seat))) }
     {
         stage.durable_beside(&mut self.flusher, seat)
     }
@@ -45,9 +49,13 @@ impl<D: Area + Drop> LogSide<D> {
         ensures same { IsSeatOf stage.now result.0 }
         ensures idle { IsIdle (commit_view result.0) }
         ensures log { IsFlusherOf stage.now self.new.flusher × (self.new.probe ≡ self.old.probe) }
-        ensures settles { Settles D.Area stage.now.room self.old (commit_view seat) result.1 (commit_view result.0) self.new }
-        ensures settled { IfOk result.1 (λ found. MatchOption found (Learns (commit_view seat) (commit_view result.0)) (λ receipt. Receives (commit_view seat) receipt (commit_view result.0))) }
-        ensures refused { IfErr result.1 (λ fault. IsOfDevice fault × Learns (commit_view seat) (commit_view result.0)) }
+        ensures settles { Settles D.Area stage.now.room self.old (commit_view seat) result.1
+            (commit_view result.0) self.new }
+        ensures settled { IfOk result.1 (λ found.
+            MatchOption found (Learns (commit_view seat) (commit_view result.0)) (λ receipt.
+            Receives (commit_view seat) receipt (commit_view result.0))) }
+        ensures refused { IfErr result.1 (λ fault. IsOfDevice fault
+            × Learns (commit_view seat) (commit_view result.0)) }
     {
         let (seat, found) = self.durable(stage, seat);
         if found.is_some() {
@@ -64,15 +72,16 @@ impl<D: Area + Drop> LogSide<D> {
 }
 
 impl<D: Area + Drop> Node<D> {
-    /// The receipt of the seat's last closed record, exactly where the published end has reached it. It waits for the lock
-    /// of the log, and takes no memory.
+    /// The receipt of the seat's last closed record, exactly where the published end has reached it. It waits for the
+    /// lock of the log, and takes no memory.
     pub fn durable<R: Wait>(&self, rt: &R, seat: CommitSeat) -> (CommitSeat, Option<Receipt>)
         requires own { IsSeatOf self.now.stage seat }
         requires idle { IsIdle (commit_view seat) }
         ensures own { IsSeatOf self.now.stage result.0 }
         ensures idle { IsIdle (commit_view result.0) }
         ensures looks { LooksIn self.now (commit_view seat) result.1 (commit_view result.0) }
-        ensures found { MatchOption result.1 (Learns (commit_view seat) (commit_view result.0)) (λ receipt. Receives (commit_view seat) receipt (commit_view result.0)) }
+        ensures found { MatchOption result.1 (Learns (commit_view seat) (commit_view result.0)) (λ receipt.
+            Receives (commit_view seat) receipt (commit_view result.0)) }
     {
         let (mut log, loan) = self.log.lock(rt);
         let (seat, found) = log.durable(&self.stage, seat);
@@ -80,15 +89,15 @@ impl<D: Area + Drop> Node<D> {
         (seat, found)
     }
 
-    /// The receipt of the seat's last closed record, once it is stable: all that the seat closed is stable then. None, without a
-    /// wait, exactly where it never closed one. It looks first whether the record is stable, and else flushes the log; it does
-    /// so again where a record in front of it is still open. It waits for the lock of the log and for such a record, and takes
-    /// no memory.
+    /// The receipt of the seat's last closed record, once it is stable: all that the seat closed is stable then. None,
+    /// without a wait, exactly where it never closed one. It looks first whether the record is stable, and else flushes
+    /// the log; it does so again where a record in front of it is still open. It waits for the lock of the log and for
+    /// such a record, and takes no memory.
     ///
     /// # Errors
     ///
-    /// `Halted` where a device failed before, and `DeviceFault` where it fails now: the record stays closed, and what becomes of
-    /// it a recovery decides.
+    /// `Halted` where a device failed before, and `DeviceFault` where it fails now: the record stays closed, and what
+    /// becomes of it a recovery decides.
     pub fn settle_last<R: Wait>(
         &self,
         rt: &R,
@@ -100,11 +109,15 @@ impl<D: Area + Drop> Node<D> {
         ensures idle { IsIdle (commit_view result.0) }
         ensures none { (result.1 ≡ Ok None) ↔ ¬ HasClosed (commit_view seat) }
         ensures same { result.1 ≡ Ok None → commit_view result.0 ≡ commit_view seat }
-        ensures looks { (receipt : Given) → result.1 ≡ Ok (Some receipt) → LooksIn self.now (commit_view seat) (Some receipt) (commit_view result.0) }
-        ensures settled { (receipt : Given) → result.1 ≡ Ok (Some receipt) → Receives (commit_view seat) receipt (commit_view result.0) }
-        ensures received { (receipt : Given) → result.1 ≡ Ok (Some receipt) → HasReceipt (commit_view result.0) receipt }
+        ensures looks { (receipt : Given) → result.1 ≡ Ok (Some receipt)
+            → LooksIn self.now (commit_view seat) (Some receipt) (commit_view result.0) }
+        ensures settled { (receipt : Given) → result.1 ≡ Ok (Some receipt)
+            → Receives (commit_view seat) receipt (commit_view result.0) }
+        ensures received { (receipt : Given) → result.1 ≡ Ok (Some receipt)
+            → HasReceipt (commit_view result.0) receipt }
         ensures fails { IfErr result.1 (λ fault. FailsIn D.Area self.now fault) }
-        ensures refused { IfErr result.1 (λ fault. IsOfDevice fault × Learns (commit_view seat) (commit_view result.0)) }
+        ensures refused { IfErr result.1 (λ fault. IsOfDevice fault
+            × Learns (commit_view seat) (commit_view result.0)) }
     {
         if !seat.has_closed() {
             return (seat, Ok(None));
@@ -127,10 +140,12 @@ impl<D: Area + Drop> Node<D> {
         requires idle { IsIdle (commit_view seat) }
         ensures own { IsSeatOf self.now.stage result.0 }
         ensures idle { IsIdle (commit_view result.0) }
-        ensures looks { IfOk result.1 (λ receipt. LooksIn self.now (commit_view seat) (Some receipt) (commit_view result.0)) }
+        ensures looks { IfOk result.1 (λ receipt.
+            LooksIn self.now (commit_view seat) (Some receipt) (commit_view result.0)) }
         ensures fails { IfErr result.1 (λ fault. FailsIn D.Area self.now fault) }
         ensures settled { IfOk result.1 (λ receipt. Receives (commit_view seat) receipt (commit_view result.0)) }
-        ensures refused { IfErr result.1 (λ fault. IsOfDevice fault × Learns (commit_view seat) (commit_view result.0)) }
+        ensures refused { IfErr result.1 (λ fault. IsOfDevice fault
+            × Learns (commit_view seat) (commit_view result.0)) }
     {
         let mut seat = seat;
         for _ in rt.forever() {
@@ -155,8 +170,11 @@ impl<D: Area + Drop> Node<D> {
         ensures own { IsSeatOf self.now.stage result.0 }
         ensures idle { IsIdle (commit_view result.0) }
         ensures settles { SettlesIn D.Area self.now (commit_view seat) result.1 (commit_view result.0) }
-        ensures settled { IfOk result.1 (λ found. MatchOption found (Learns (commit_view seat) (commit_view result.0)) (λ receipt. Receives (commit_view seat) receipt (commit_view result.0))) }
-        ensures refused { IfErr result.1 (λ fault. IsOfDevice fault × Learns (commit_view seat) (commit_view result.0)) }
+        ensures settled { IfOk result.1 (λ found.
+            MatchOption found (Learns (commit_view seat) (commit_view result.0)) (λ receipt.
+            Receives (commit_view seat) receipt (commit_view result.0))) }
+        ensures refused { IfErr result.1 (λ fault. IsOfDevice fault
+            × Learns (commit_view seat) (commit_view result.0)) }
     {
         let (mut log, loan) = self.log.lock(rt);
         let (seat, settled) = log.settle(&self.stage, seat);

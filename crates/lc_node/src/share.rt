@@ -2,8 +2,8 @@
 ghost use Rattle.std.specs.Prelude.{◌≡◌, ◌<◌, ◌≤◌, None, if◌then◌else◌};
 ghost use Rattle.lc_node.specs.Shares.{has_token};
 
-/// The share of a node in the tokens of a store: those of the segments whose numbers are the node's modulo the number of
-/// nodes. This project's own.
+/// The share of a node in the tokens of a store: those of the segments whose numbers are the node's modulo the number
+/// of nodes.
 #[derive(Clone, Copy)]
 pub(crate) struct Share {
     pub(crate) number: u32,

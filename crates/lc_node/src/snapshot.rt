@@ -11,7 +11,7 @@ use lc_disk::Area;
 use std::alloc::{AllocError, Global};
 use std::sync::Wait;
 
-/// What a node had of a segment at one moment. This project's own.
+/// What a node had of a segment at one moment.
 #[derive(Drop)]
 pub struct Snapshot {
     /// The number of the segment's last record that the bytes have.
@@ -37,8 +37,8 @@ impl<D: Area + Drop> SegSide<D> {
 }
 
 impl<D: Area + Drop> Node<D> {
-    /// A copy of what this node has of a segment, whether the segment's token is here or not. Where it is elsewhere, the
-    /// bytes are those of an earlier moment of the segment. It waits for the segment's lock.
+    /// A copy of what this node has of a segment, whether the segment's token is here or not. Where it is elsewhere,
+    /// the bytes are those of an earlier moment of the segment. It waits for the segment's lock.
     ///
     /// # Errors
     ///

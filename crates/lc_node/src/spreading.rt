@@ -3,7 +3,8 @@ ghost use Rattle.std.specs.Prelude.{◌≡◌, ◌+◌, ◌-◌, ◌^◌, ◌<�
 ghost use Rattle.lc_node.specs.Copies.{CanBeSent, AreNext, SendsAll, SendsFirst};
 ghost use Rattle.lc_node.specs.Each.{Each, EachThree};
 ghost use Rattle.lc_node.specs.Published.{published};
-ghost use Rattle.lc_node.specs.Spread.{ArePrefixes, LacksNoneOf, SameLines, SendsFew, SendsMost, sent_in, missing_in, tokens_in};
+ghost use Rattle.lc_node.specs.Spread.{ArePrefixes, LacksNoneOf, SameLines, SendsFew, SendsMost, sent_in, missing_in};
+ghost use Rattle.lc_node.specs.Spread.{tokens_in};
 ghost use Rattle.lc_node.specs.declared.node_fault.NodeFault.TheVariants.{NoMemory};
 
 use crate::copying::copies_for;
@@ -23,12 +24,11 @@ pub struct Spread {
 }
 
 impl<P: Drop> SendEnds<P> {
-    /// Sends each peer the published records that it lacks, in the order of their numbers: 64 in a call, or all where these
-    /// are fewer, if none of them was dropped. A peer is cut off before where its line held 64 messages at one moment, or its
-    /// receiving end is gone. All
-    /// that may be sent is copied before the first is sent: NoMemory, the one fault, changes nothing. There are less than
-    /// 2^16 peers, so the sum of what is sent fits; what is left is added up saturating.
-    /// Log-based coherency: Feeley et al., OSDI 1994.
+    /// Sends each peer the published records that it lacks, in the order of their numbers: 64 in a call, or all where
+    /// these are fewer, if none of them was dropped. A peer is cut off before where its line held 64 messages at one
+    /// moment, or its receiving end is gone. All that may be sent is copied before the first is sent: NoMemory, the one
+    /// fault, changes nothing. There are less than 2^16 peers, so the sum of what is sent fits; what is left is added
+    /// up saturating. Log-based coherency: Feeley et al., OSDI 1994.
     pub fn spread<D: Area + Drop, R: Wait>(
         &mut self,
         rt: &R,
@@ -36,11 +36,15 @@ impl<P: Drop> SendEnds<P> {
         log: &LogSide<D>,
     ) -> Result<Spread, NodeFault>
         requires few { length self.old.ends.items < 2 ^ 16 }
-        ensures prefix { ArePrefixes (published log.now) self.old.ends.items → ArePrefixes (published log.now) self.new.ends.items }
+        ensures prefix { ArePrefixes (published log.now) self.old.ends.items
+            → ArePrefixes (published log.now) self.new.ends.items }
         ensures each { OnOk result (Each SendsFew self.old.ends.items self.new.ends.items) }
-        ensures most { OnOk result (ArePrefixes (published log.now) self.old.ends.items → All (LacksNoneOf log.now.gone) self.old.ends.items → Each (SendsMost (published log.now)) self.old.ends.items self.new.ends.items) }
+        ensures most { OnOk result (ArePrefixes (published log.now) self.old.ends.items
+            → All (LacksNoneOf log.now.gone) self.old.ends.items
+            → Each (SendsMost (published log.now)) self.old.ends.items self.new.ends.items) }
         ensures sent { IfOk result (λ s. sent_in self.new.ends.items ≡ sent_in self.old.ends.items + s.sent) }
-        ensures left { IfOk result (λ s. s.left ≡ min (2 ^ 64 - 1) (missing_in (published log.now) self.new.ends.items)) }
+        ensures left { IfOk result (λ s. s.left
+            ≡ min (2 ^ 64 - 1) (missing_in (published log.now) self.new.ends.items)) }
         ensures tokens { tokens_in self.new.ends.items ≡ tokens_in self.old.ends.items }
         ensures lines { SameLines self.old.ends.items self.new.ends.items }
         ensures err { OnErr result (self.new ≡ self.old) }
@@ -64,9 +68,12 @@ fn send_copies<P: Drop, R: Wait>(
 ) -> u64
     requires few { length peers.old.items < 2 ^ 16 }
     requires fit { Each (λ peer lacks. CanBeSent peer lacks.items) peers.old.items copies.items }
-    ensures prefix { (published : List (List ℕ)) → Each (λ peer lacks. AreNext published peer lacks.items) peers.old.items copies.items → ArePrefixes published peers.old.items → ArePrefixes published peers.new.items }
+    ensures prefix { (published : List (List ℕ))
+        → Each (λ peer lacks. AreNext published peer lacks.items) peers.old.items copies.items
+        → ArePrefixes published peers.old.items → ArePrefixes published peers.new.items }
     ensures each { Each SendsFew peers.old.items peers.new.items }
-    ensures all { EachThree (λ old lacks new. SendsAll old lacks.items new) peers.old.items copies.items peers.new.items }
+    ensures all { EachThree (λ old lacks new. SendsAll old lacks.items new) peers.old.items copies.items
+        peers.new.items }
     ensures sent { sent_in peers.new.items ≡ sent_in peers.old.items + result }
     ensures tokens { tokens_in peers.new.items ≡ tokens_in peers.old.items }
     ensures lines { SameLines peers.old.items peers.new.items }

@@ -13,7 +13,8 @@ use lc_disk::Area;
 use lc_recover::Recovered;
 use std::alloc::{AllocError, Global};
 
-/// The memory of some nodes of a store, with the places for the areas of its segments. It is never dropped: it ends in `open`.
+/// The memory of some nodes of a store, with the places for the areas of its segments. It is never dropped: it ends in
+/// `open`.
 pub(crate) struct StoreRoom<D: Area + Drop> {
     pub(crate) nodes: Vec<NodeRoom<D>>,
     pub(crate) places: Vec<Option<D>>,
@@ -39,8 +40,8 @@ impl<D: Area + Drop> StoreRoom<D> {
         })
     }
 
-    /// The nodes come up, from node 0 on, each on the area of its log. They share the tokens, and with them the areas of the
-    /// segments, so that none is left. The areas of other nodes' logs are dropped. It takes no memory.
+    /// The nodes come up, from node 0 on, each on the area of its log. They share the tokens, and with them the areas
+    /// of the segments, so that none is left. The areas of other nodes' logs are dropped. It takes no memory.
     pub(crate) fn open(self, recovered: Recovered<D>) -> Vec<OpenedNode<D>>
         requires room { IsStoreRoom recovered (vec_len self.nodes) self }
         requires some { 0 < vec_len self.nodes }

@@ -44,8 +44,8 @@ impl<D: Area + Drop> Node<D> {
         words
     }
 
-    /// Whether the token of a segment stood here at one moment, so that a transaction on the segment might begin. False where the
-    /// node has no such segment. It waits for the lock of the segment.
+    /// Whether the token of a segment stood here at one moment, so that a transaction on the segment might begin. False
+    /// where the node has no such segment. It waits for the lock of the segment.
     pub fn has_token<R: Wait>(&self, rt: &R, segment: u32) -> bool
         ensures no_segment { (HasSegment self.now segment → ⊥) → result ≡ false }
         ensures here { HasSegment self.now segment → HasTokenOf self.now segment result }

@@ -21,15 +21,16 @@ use std::alloc::Global;
 use std::sync::Wait;
 
 impl<D: Area + Drop> Node<D> {
-    /// Runs the work in a transaction on these segments, whose locks it gets in ascending order, and closes its record in
-    /// the stage, with so many tries for a place. The locks are given back before it waits for a flush, which it does in
-    /// `Mode::Flush` alone. All memory is taken before a place is reserved. `gate` is called between reservation and
-    /// closing.
+    /// Runs the work in a transaction on these segments, whose locks it gets in ascending order, and closes its record
+    /// in the stage, with so many tries for a place. The locks are given back before it waits for a flush, which it
+    /// does in `Mode::Flush` alone. All memory is taken before a place is reserved. `gate` is called between
+    /// reservation and closing.
     ///
     /// # Errors
     ///
-    /// Those of `hold` and of `Held::commit`: then the work is undone, and the seat has at most seen a tail. `DeviceFault` and
-    /// `Halted` where the flush fails: the record stays closed, and what becomes of it a recovery decides.
+    /// Those of `hold` and of `Held::commit`: then the work is undone, and the seat has at most seen a tail.
+    /// `DeviceFault` and `Halted` where the flush fails: the record stays closed, and what becomes of it a recovery
+    /// decides.
     pub fn transact<R: Wait, W: Work, G: Gate>(
         &self,
         rt: &R,
@@ -46,20 +47,30 @@ impl<D: Area + Drop> Node<D> {
         requires tries { 0 < tries }
         ensures own { IsSeatOf self.now.stage result.0 }
         ensures idle { IsIdle (commit_view result.0) }
-        ensures here { OnOk result.1 ((sides : List (Side D)) × All (IsHeldOf self.now) sides × IsSetOf segments.now (segments_in sides) × AreHere sides) }
+        ensures here { OnOk result.1 ((sides : List (Side D)) × All (IsHeldOf self.now) sides
+            × IsSetOf segments.now (segments_in sides) × AreHere sides) }
         ensures empty { result.1 ≡ Ok Empty → (commit_view result.0 ≡ commit_view seat)
             × ((same : Bytes) × Ran (W.ran work.old work.new) segments.now same (Ok tt) same []) }
-        ensures lazy { result.1 ≡ Ok Lazy → ClosesWork self.now.number (W.ran work.old work.new) segments.now (commit_view seat) (commit_view result.0) }
+        ensures lazy { result.1 ≡ Ok Lazy
+            → ClosesWork self.now.number (W.ran work.old work.new) segments.now (commit_view seat)
+            (commit_view result.0) }
         ensures flushed { (receipt : Given) → result.1 ≡ Ok (Flushed receipt)
-            → (w : StageView) × ClosesWork self.now.number (W.ran work.old work.new) segments.now (commit_view seat) w × Receives w receipt (commit_view result.0) }
-        ensures received { (receipt : Given) → result.1 ≡ Ok (Flushed receipt) → HasReceipt (commit_view result.0) receipt }
+            → (w : StageView) × ClosesWork self.now.number (W.ran work.old work.new) segments.now (commit_view seat) w
+            × Receives w receipt (commit_view result.0) }
+        ensures received { (receipt : Given) → result.1 ≡ Ok (Flushed receipt)
+            → HasReceipt (commit_view result.0) receipt }
         ensures unasked { result.1 ≡ Ok Lazy → mode ≡ Mode.Lazy }
         ensures asked { (receipt : Given) → result.1 ≡ Ok (Flushed receipt) → mode ≡ Mode.Flush }
         ensures refused { IfErr result.1 (λ fault. (Sees (commit_view seat) (commit_view result.0)
             × (((s : ℕ) × (fault ≡ NotHere s) × IsFirstOutside self.now segments.now s)
             ⊎ (((fault ≡ NoMemory) × (0 < length self.now.segments.items))
-            ⊎ (IsHalted D fault ⊎ ((old : Bytes) × IsUncommitted (W.ran work.old work.new) (IsUnbegunAmong segments.now) segments.now old self.now.stage.room tries (commit_view result.0).seen fault)))))
-            ⊎ (IsOfDevice fault × ((w : StageView) × ClosesWork self.now.number (W.ran work.old work.new) segments.now (commit_view seat) w × Learns w (commit_view result.0)))) }
+            ⊎ (IsHalted D fault ⊎ ((old : Bytes)
+            × IsUncommitted (W.ran work.old work.new)
+            (IsUnbegunAmong segments.now) segments.now old self.now.stage.room tries
+            (commit_view result.0).seen fault)))))
+            ⊎ (IsOfDevice fault × ((w : StageView)
+            × ClosesWork self.now.number (W.ran work.old work.new) segments.now (commit_view seat) w
+            × Learns w (commit_view result.0)))) }
     {
         let mut seat = seat;
         let committed = self.commit(rt, alloc, &mut seat, segments, work, tries, gate);

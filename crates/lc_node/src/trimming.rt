@@ -11,7 +11,7 @@ impl<D: Area + Drop> LogSide<D> {
     /// where all nodes have applied each of its locks, and on each of its segments it has the number after those that
     /// were dropped, of whatever node. The dropped ones are counted then. The segments stand from segment 1 on. The
     /// records stay published: their numbers are counted on. Answers how many went. It takes no memory, and over many
-    /// calls the time of what is dropped. This project's own.
+    /// calls the time of what is dropped.
     pub(crate) fn trim(&mut self, applied: &[u64], dropped: &mut [u64]) -> u64
         ensures trimmed { TrimsLog applied.now dropped.old self.old result self.new dropped.new }
         ensures published { published self.new ≡ published self.old }
@@ -19,7 +19,8 @@ impl<D: Area + Drop> LogSide<D> {
         self.ended.trim(applied, dropped)
     }
 
-    /// Drops the words of all rounds that have ended. Their room is used again. The records stay published. It takes no memory.
+    /// Drops the words of all rounds that have ended. Their room is used again. The records stay published. It takes no
+    /// memory.
     pub(crate) fn forget_ended(&mut self)
         ensures forgets { ForgetsEnded self.old self.new }
         ensures published { published self.new ≡ published self.old }

@@ -8,7 +8,9 @@ ghost use Rattle.lc_node.specs.Held.{IsHeldOf, segments_of};
 ghost use Rattle.lc_node.specs.Halting.{IsUntruncatable};
 ghost use Rattle.lc_node.specs.LogView.{LogView};
 ghost use Rattle.lc_node.specs.Logs.{IsLogOf};
-ghost use Rattle.lc_node.specs.Truncates.{HasNotTruncated, HasPagesIn, HasTruncated, IsOfTruncation, IsSameHeld, IsUntruncated, IsUntruncatedHeld, IsUntruncatedInRoom, MayTruncate, Truncates, TruncatesAlone, TruncatesHeld, TruncatesInRoom};
+ghost use Rattle.lc_node.specs.Truncates.{HasNotTruncated, HasPagesIn, HasTruncated, IsOfTruncation, IsSameHeld};
+ghost use Rattle.lc_node.specs.Truncates.{IsUntruncated, IsUntruncatedHeld, IsUntruncatedInRoom, MayTruncate};
+ghost use Rattle.lc_node.specs.Truncates.{Truncates, TruncatesAlone, TruncatesHeld, TruncatesInRoom};
 
 use crate::cleaning::{most_pages, write_all};
 use crate::held::{Held, HeldSide};
@@ -27,8 +29,8 @@ const SEGMENTS: [u32; MAX_SEGMENT as usize] = [
 ];
 
 impl<D: Area + Drop> LogSide<D> {
-    // Where the log may be truncated, makes room for the words of its round, flushes it, writes the dirty pages of these segments,
-    // and empties it.
+    // Where the log may be truncated, makes room for the words of its round, flushes it, writes the dirty pages of
+    // these segments, and empties it.
     fn truncate(
         &mut self,
         stage: &Stage,
@@ -40,8 +42,10 @@ impl<D: Area + Drop> LogSide<D> {
         requires room { All (HasPagesIn (deque_capacity writes.old)) sides.old.items }
         ensures own { IsFlusherOf stage.now self.new.flusher × IsSeatOf stage.now self.new.probe }
         ensures same { Each IsSameHeld sides.old.items sides.new.items }
-        ensures truncated { IfOk result (λ round. TruncatesInRoom D.Area stage.now.room self.old sides.old.items round self.new sides.new.items) }
-        ensures refused { IfErr result (λ fault. IsUntruncatedInRoom D.Area stage.now.room self.old sides.old.items fault self.new sides.new.items) }
+        ensures truncated { IfOk result (λ round.
+            TruncatesInRoom D.Area stage.now.room self.old sides.old.items round self.new sides.new.items) }
+        ensures refused { IfErr result (λ fault.
+            IsUntruncatedInRoom D.Area stage.now.room self.old sides.old.items fault self.new sides.new.items) }
     {
         self.may_truncate()?;
         let Ok(()) = self.make_room(stage) else {
@@ -63,8 +67,10 @@ impl<D: Area + Drop> LogSide<D> {
         requires ended { HasRoom self.old }
         ensures own { IsFlusherOf stage.now self.new.flusher × IsSeatOf stage.now self.new.probe }
         ensures same { Each IsSameHeld sides.old.items sides.new.items }
-        ensures truncated { IfOk result (λ round. Truncates D.Area stage.now.room self.old sides.old.items round self.new sides.new.items) }
-        ensures refused { IfErr result (λ fault. IsUntruncated D.Area stage.now.room self.old sides.old.items fault self.new sides.new.items) }
+        ensures truncated { IfOk result (λ round.
+            Truncates D.Area stage.now.room self.old sides.old.items round self.new sides.new.items) }
+        ensures refused { IfErr result (λ fault.
+            IsUntruncated D.Area stage.now.room self.old sides.old.items fault self.new sides.new.items) }
     {
         self.flush(stage)?;
         if let Err(fault) = write_all(sides, writes) {
@@ -123,8 +129,10 @@ impl<D: Area + Drop> Node<D> {
         requires held { All (IsHeldOf self.now) held.old.sides.items }
         ensures held { All (IsHeldOf self.now) held.new.sides.items }
         ensures segments { segments_of held.new ≡ segments_of held.old }
-        ensures truncated { IfOk result (λ round. TruncatesHeld D.Area self.now held.old.sides.items round held.new.sides.items) }
-        ensures refused { IfErr result (λ fault. IsUntruncatedHeld D.Area self.now held.old.sides.items fault held.new.sides.items) }
+        ensures truncated { IfOk result (λ round.
+            TruncatesHeld D.Area self.now held.old.sides.items round held.new.sides.items) }
+        ensures refused { IfErr result (λ fault.
+            IsUntruncatedHeld D.Area self.now held.old.sides.items fault held.new.sides.items) }
     {
         let most = most_pages(held.sides.as_slice());
         let Ok(mut writes) = VecDeque::with_capacity(alloc, most) else {
@@ -137,7 +145,8 @@ impl<D: Area + Drop> Node<D> {
         truncated
     }
 
-    // Truncates the log with these sides. Where the node is alone nobody wants the records of the rounds that have ended.
+    // Truncates the log with these sides. Where the node is alone nobody wants the records of the rounds that have
+    // ended.
     fn truncate_log(
         &self,
         log: &mut LogSide<D>,
@@ -149,8 +158,11 @@ impl<D: Area + Drop> Node<D> {
         requires room { All (HasPagesIn (deque_capacity writes.old)) sides.old.items }
         ensures own { IsFlusherOf self.now.stage log.new.flusher × IsSeatOf self.now.stage log.new.probe }
         ensures same { Each IsSameHeld sides.old.items sides.new.items }
-        ensures truncated { IfOk result (λ round. TruncatesAlone D.Area self.now.is_alone self.now.stage.room log.old sides.old.items round log.new sides.new.items) }
-        ensures refused { IfErr result (λ fault. IsUntruncatedInRoom D.Area self.now.stage.room log.old sides.old.items fault log.new sides.new.items) }
+        ensures truncated { IfOk result (λ round.
+            TruncatesAlone D.Area self.now.is_alone self.now.stage.room log.old sides.old.items round log.new
+            sides.new.items) }
+        ensures refused { IfErr result (λ fault.
+            IsUntruncatedInRoom D.Area self.now.stage.room log.old sides.old.items fault log.new sides.new.items) }
     {
         let round = log.truncate(&self.stage, sides, writes)?;
         if self.is_alone {

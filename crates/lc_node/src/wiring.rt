@@ -6,14 +6,15 @@ use crate::{PeerEnd, PeerInbox, RecvEnds, SendEnds};
 use lc_line::open_line;
 use std::alloc::{AllocError, Global};
 
-/// A node's ends of the lines to and from its peers. This project's own.
+/// A node's ends of the lines to and from its peers.
 #[derive(Drop)]
 pub(crate) struct NodeEnds<P: Drop> {
     pub(crate) to: SendEnds<P>,
     pub(crate) from: RecvEnds<P>,
 }
 
-/// The ends of each node of a cluster of so many, with a line from each to each other. It fails for want of memory alone.
+/// The ends of each node of a cluster of so many, with a line from each to each other. It fails for want of memory
+/// alone.
 pub(crate) fn wire<P: Drop>(alloc: Global, nodes: u16) -> Result<Vec<NodeEnds<P>>, AllocError>
     requires { 1 ≤ nodes }
     ensures count { IfOk result (λ ends. length ends.items ≡ nodes) }
@@ -51,7 +52,8 @@ fn wire_from<P: Drop>(
     from: usize,
 ) -> Result<(), AllocError>
     requires { from < length all.old.items }
-    ensures { (nodes : ℕ) → AreWired nodes from 0 all.old.items → OnOk result (AreWired nodes (from + 1) 0 all.new.items) }
+    ensures { (nodes : ℕ) → AreWired nodes from 0 all.old.items
+        → OnOk result (AreWired nodes (from + 1) 0 all.new.items) }
 {
     for to in 0..all.len() {
         if to != from {
@@ -72,7 +74,8 @@ fn connect<P: Drop>(
     requires from { from < length all.old.items }
     requires to { to < length all.old.items }
     ensures count { length all.new.items ≡ length all.old.items }
-    ensures wired { (nodes : ℕ) → AreWired nodes from to all.old.items → OnOk result (AreWired nodes from (to + 1) all.new.items) }
+    ensures wired { (nodes : ℕ) → AreWired nodes from to all.old.items
+        → OnOk result (AreWired nodes from (to + 1) all.new.items) }
 {
     let (sending, receiving) = open_line(alloc)?;
     let sender = &mut all[from];

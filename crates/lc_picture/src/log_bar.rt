@@ -1,7 +1,9 @@
 //! A log as a bar of records.
 ghost use Rattle.std.specs.Prelude.{flat_map, OnOk};
 ghost use Rattle.std.specs.Io.KnownBytes.{Appends};
-ghost use Rattle.lc_picture.specs.Picture.{bar_frame_text, bar_head_text, bar_label_text, bar_place_text, bar_trailing_text, bar_text, edge_text, lane_text, lanes_text, record_end_text, record_head_text, record_in_bar, records_in_bar};
+ghost use Rattle.lc_picture.specs.Picture.{bar_frame_text, bar_head_text, bar_label_text, bar_place_text};
+ghost use Rattle.lc_picture.specs.Picture.{bar_trailing_text, bar_text, edge_text, lane_text, lanes_text};
+ghost use Rattle.lc_picture.specs.Picture.{record_end_text, record_head_text, record_in_bar, records_in_bar};
 
 use crate::layout::log_top;
 use lc_record::{Geometry, Lock, Record, encoded_words};
@@ -37,7 +39,8 @@ pub(crate) fn write_bar<W: io::Write>(
 
 // What the log has, and the room after its records. A lane of the bar is a segment.
 fn write_bar_head<W: io::Write>(writer: &mut W, geometry: &Geometry, bar: &LogBar) -> io::Result<()>
-    ensures { OnOk result (Appends (W.contents writer.old) (W.contents writer.new) (bar_head_text geometry.now bar.now)) }
+    ensures { OnOk result (Appends (W.contents writer.old) (W.contents writer.new)
+        (bar_head_text geometry.now bar.now)) }
 {
     write_bar_place(writer, log_top(bar.node))?;
     write_bar_label(
@@ -66,7 +69,8 @@ fn write_bar_label<W: io::Write>(
     words: u32,
     trailing: usize,
 ) -> io::Result<()>
-    ensures { OnOk result (Appends (W.contents writer.old) (W.contents writer.new) (bar_label_text node count end words trailing)) }
+    ensures { OnOk result (Appends (W.contents writer.old) (W.contents writer.new)
+        (bar_label_text node count end words trailing)) }
 {
     write!(
         writer,
@@ -89,7 +93,8 @@ fn write_bar_trailing<W: io::Write>(
     trailing: usize,
     lanes: u32,
 ) -> io::Result<()>
-    ensures { OnOk result (Appends (W.contents writer.old) (W.contents writer.new) (bar_trailing_text end trailing lanes)) }
+    ensures { OnOk result (Appends (W.contents writer.old) (W.contents writer.new)
+        (bar_trailing_text end trailing lanes)) }
 {
     write!(
         writer,
@@ -118,7 +123,8 @@ fn write_record_in_bar<W: io::Write>(
     place: usize,
     record: &Record,
 ) -> io::Result<()>
-    ensures { OnOk result (Appends (W.contents writer.old) (W.contents writer.new) (record_in_bar lanes place «record».now)) }
+    ensures { OnOk result (Appends (W.contents writer.old) (W.contents writer.new)
+        (record_in_bar lanes place «record».now)) }
 {
     let words = encoded_words(record);
     write_record_head(writer, place, record)?;
@@ -129,7 +135,8 @@ fn write_record_in_bar<W: io::Write>(
 
 #[tactic(auto, unfolding(crate::specs::Picture::record_head_text))]
 fn write_record_head<W: io::Write>(writer: &mut W, place: usize, record: &Record) -> io::Result<()>
-    ensures { OnOk result (Appends (W.contents writer.old) (W.contents writer.new) (record_head_text place «record».now)) }
+    ensures { OnOk result (Appends (W.contents writer.old) (W.contents writer.new)
+        (record_head_text place «record».now)) }
 {
     writer.write_all(b"<g><title>")?;
     write_record(writer, place, record)
@@ -141,7 +148,8 @@ fn write_record_end<W: io::Write>(
     place: usize,
     words: usize,
 ) -> io::Result<()>
-    ensures { OnOk result (Appends (W.contents writer.old) (W.contents writer.new) (record_end_text lanes place words)) }
+    ensures { OnOk result (Appends (W.contents writer.old) (W.contents writer.new)
+        (record_end_text lanes place words)) }
 {
     write!(
         writer,

@@ -1,7 +1,8 @@
 //! A page as a cell.
 ghost use Rattle.std.specs.Prelude.{◌≡◌, OnOk};
 ghost use Rattle.std.specs.Io.KnownBytes.{Appends};
-ghost use Rattle.lc_picture.specs.Picture.{behind_class, behind_words, cell_head_text, cell_text, cell_title_text, slot_class, slot_words};
+ghost use Rattle.lc_picture.specs.Picture.{behind_class, behind_words, cell_head_text, cell_text, cell_title_text};
+ghost use Rattle.lc_picture.specs.Picture.{slot_class, slot_words};
 
 use crate::layout::{cell_left, cell_top};
 use lc_page::Slot;
@@ -48,7 +49,8 @@ fn write_cell_head<W: io::Write>(
     left: u32,
     top: u32,
 ) -> io::Result<()>
-    ensures { OnOk result (Appends (W.contents writer.old) (W.contents writer.new) (cell_head_text slot.now behind.now left top)) }
+    ensures { OnOk result (Appends (W.contents writer.old) (W.contents writer.new)
+        (cell_head_text slot.now behind.now left top)) }
 {
     write!(
         writer,
@@ -63,7 +65,8 @@ fn write_cell_title<W: io::Write>(
     number: u64,
     behind: &str,
 ) -> io::Result<()>
-    ensures { OnOk result (Appends (W.contents writer.old) (W.contents writer.new) (cell_title_text page slot.now number behind.now)) }
+    ensures { OnOk result (Appends (W.contents writer.old) (W.contents writer.new)
+        (cell_title_text page slot.now number behind.now)) }
 {
     write!(
         writer,

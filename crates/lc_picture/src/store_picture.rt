@@ -1,7 +1,8 @@
 //! The picture of a store.
 ghost use Rattle.std.specs.Prelude.{flat_map, OnOk};
 ghost use Rattle.std.specs.Io.KnownBytes.{Appends};
-ghost use Rattle.lc_picture.specs.Picture.{bars_text, closings_text, fields_begin_text, fields_text, head_text, logs_text, picture_text, segments_text};
+ghost use Rattle.lc_picture.specs.Picture.{bars_text, closings_text, fields_begin_text, fields_text, head_text};
+ghost use Rattle.lc_picture.specs.Picture.{logs_text, picture_text, segments_text};
 
 use crate::layout::{field_height, fields_top, picture_height};
 use crate::log_bar::{LogBar, write_bar};
@@ -23,7 +24,7 @@ pub struct StorePicture {
 
 /// Writes the picture of a store, as SVG. Each log is a bar of its records, in which each segment has a lane, and after
 /// them of what was written and of what is free. Each segment is a field of its pages, 64 in a row, with the slot that
-/// counts and whether some record is newer. This project's own.
+/// counts and whether some record is newer.
 pub fn write_picture<W: io::Write>(writer: &mut W, picture: &StorePicture) -> io::Result<()>
     ensures { OnOk result (Appends (W.contents writer.old) (W.contents writer.new) (picture_text picture.now)) }
 {
@@ -48,7 +49,8 @@ fn write_segments<W: io::Write>(
     geometry: &Geometry,
     fields: &[SegmentField],
 ) -> io::Result<()>
-    ensures { OnOk result (Appends (W.contents writer.old) (W.contents writer.new) (segments_text geometry.now fields.now)) }
+    ensures { OnOk result (Appends (W.contents writer.old) (W.contents writer.new)
+        (segments_text geometry.now fields.now)) }
 {
     write_fields_begin(writer, fields_top(geometry))?;
     write_fields(writer, field_height(geometry), fields)?;

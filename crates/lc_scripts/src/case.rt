@@ -9,7 +9,8 @@ pub(crate) struct Failure {
     pub(crate) call: u32,
 }
 
-/// A script by the name of its files, the store that it runs on, the status that is wanted, and which call of an area fails.
+/// A script by the name of its files, the store that it runs on, the status that is wanted, and which call of an area
+/// fails.
 #[derive(Clone, Copy, Drop)]
 pub(crate) struct Case<'a> {
     pub(crate) name: &'a str,

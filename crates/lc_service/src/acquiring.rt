@@ -12,15 +12,16 @@ use lc_node::{Cluster, NodeFault};
 use std::sync::Wait;
 use std::thread;
 
-/// Gets the token of a segment to a node of a cluster, by its number: as long as the token is elsewhere it lets a peer that has it
-/// flush and give it, and goes on with what the peers have sent the node. Another thread that waits for the segment at that peer
-/// may get it first, and one that asks for the token at another node may take it away again. So it tries so many turns, and a
-/// transaction of the caller's that is then refused as `NotHere` is to be begun again by another call.
+/// Gets the token of a segment to a node of a cluster, by its number. As long as the token is elsewhere it lets a peer
+/// that has it flush and give it, and goes on with what the peers have sent the node. Another thread that waits for the
+/// segment at that peer may get it first, and one that asks for the token at another node may take it away again. So it
+/// tries so many turns, and a transaction of the caller's that is then refused as `NotHere` is to be begun again by
+/// another call.
 ///
 /// # Errors
 ///
-/// `NotHere` where the node has no such segment, and where the token is not here after the last turn: in that turn each peer either
-/// had no token or was to give it. `Halted` and `DeviceFault` of a peer that has the token.
+/// `NotHere` where the node has no such segment, and where the token is not here after the last turn: in that turn each
+/// peer either had no token or was to give it. `Halted` and `DeviceFault` of a peer that has the token.
 pub fn acquire<D: Area + Drop, R: AllocGlobal + Wait>(
     rt: &R,
     cluster: &Cluster<D>,

@@ -11,14 +11,15 @@ use lc_node::{Cluster, Node, NodeFault};
 use std::rt::Clock;
 use std::sync::Wait;
 
-/// Keeps a node in order until it is told to end, in the thread that calls it: it flushes what is closed, again and again, and
-/// truncates the log where it is as full as is said. What a truncation is refused for, as for a token that is elsewhere or want of
-/// memory, the next round asks again. After it is told it makes one more round, so what was closed without a gap before is stable
-/// then. It is an ordinary caller: nothing else needs it, and several do no harm.
+/// Keeps a node in order until it is told to end, in the thread that calls it: it flushes what is closed, again and
+/// again, and truncates the log where it is as full as is said. What a truncation is refused for, as for a token that
+/// is elsewhere or want of memory, the next round asks again. After it is told it makes one more round, so what was
+/// closed without a gap before is stable then. It is an ordinary caller: nothing else needs it, and several do no harm.
 ///
 /// # Errors
 ///
-/// `Halted` where a device failed before, and `DeviceFault` where it fails now: the service has ended, and only a recovery helps.
+/// `Halted` where a device failed before, and `DeviceFault` where it fails now: the service has ended, and only a
+/// recovery helps.
 pub fn keep_node<D: Area + Drop, R: AllocGlobal + Clock + Wait>(
     rt: &R,
     node: &Node<D>,
@@ -31,8 +32,8 @@ pub fn keep_node<D: Area + Drop, R: AllocGlobal + Clock + Wait>(
     keep(rt, node, upkeep, shutdown)
 }
 
-/// Keeps a node of a cluster in order, by its number, as `keep_node` does. Beside that it sends the peers what is published, goes on
-/// with what they have sent, and drops what none of the nodes wants any more.
+/// Keeps a node of a cluster in order, by its number, as `keep_node` does. Beside that it sends the peers what is
+/// published, goes on with what they have sent, and drops what none of the nodes wants any more.
 ///
 /// # Errors
 ///

@@ -3,7 +3,8 @@ use std::rt::Clock;
 use std::sync::{Condvar, CondvarTimeouts, Mutex, Wait};
 use std::time::Duration;
 
-/// What another thread ends services with: each that waits on it ends after one more round. It takes no memory. This project's own.
+/// What another thread ends services with: each that waits on it ends after one more round. It takes no memory. This
+/// project's own.
 #[derive(Drop)]
 pub struct ShutdownSignal {
     is_told: Mutex<bool>,

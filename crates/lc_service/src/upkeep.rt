@@ -4,11 +4,11 @@ ghost use Rattle.lc_service.specs.Round.{IsDue};
 
 use std::time::Duration;
 
-/// When a service flushes and truncates. This project's own.
+/// When a service flushes and truncates.
 #[derive(Clone, Copy, Debug, PartialEq, Eq)]
 pub struct Upkeep {
-    /// How long the service waits between two rounds, each of which begins with a flush. So a closed record waits so long at most,
-    /// and for what the service does meanwhile.
+    /// How long the service waits between two rounds, each of which begins with a flush. So a closed record waits so
+    /// long at most, and for what the service does meanwhile.
     pub flush_every: Duration,
     /// The log is truncated where its stable records take at least so many percent of its words. Above 100 it never is.
     pub truncate_at: u8,

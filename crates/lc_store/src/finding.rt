@@ -13,7 +13,8 @@ use std::alloc::Global;
 // The most threads that a node has.
 const MOST_THREADS: u16 = 16;
 
-/// The size of the store in a folder, as the file of the size says or the lengths of the other files tell, with so many threads a node.
+/// The size of the store in a folder, as the file of the size says or the lengths of the other files tell, with so many
+/// threads a node.
 pub(crate) fn found<F: SizeSource>(
     alloc: Global,
     folder: &F,
@@ -21,7 +22,8 @@ pub(crate) fn found<F: SizeSource>(
 ) -> Result<Geometry, StoreOpenFault>
     ensures threads { IfOk result (λ geometry. geometry.threads ≡ threads) }
     ensures size { IfOk result (λ geometry. F.honest folder.now ≡ true
-        → (its : Sizes) × IsSizeOf (F.stated folder.now) (F.logs folder.now) (F.segments folder.now) its × IsSameSize its geometry) }
+        → (its : Sizes) × IsSizeOf (F.stated folder.now) (F.logs folder.now) (F.segments folder.now) its
+        × IsSameSize its geometry) }
     ensures bad_threads { (result ≡ Err StoreOpenFault.BadThreads) ↔ IsNoThreadCount threads }
 {
     if threads == 0 || MOST_THREADS < threads {

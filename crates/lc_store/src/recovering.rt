@@ -16,8 +16,8 @@ use std::alloc::Global;
 ///
 /// # Errors
 ///
-/// `BadGeometry` of the first area that has not the length of the geometry, or is one too many or too few; `NotUp` where a record or
-/// a page is not one, a device failed, or there is no memory. The areas are gone.
+/// `BadGeometry` of the first area that has not the length of the geometry, or is one too many or too few; `NotUp`
+/// where a record or a page is not one, a device failed, or there is no memory. The areas are gone.
 pub fn recovered_on<D: Area + Drop>(
     alloc: Global,
     geometry: Geometry,

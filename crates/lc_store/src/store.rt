@@ -16,7 +16,7 @@ use std::alloc::Global;
 use std::path::AsPath;
 use std::rt::Files;
 
-/// A store that is open, and what keeps other processes from it until this is dropped. This project's own.
+/// A store that is open, and what keeps other processes from it until this is dropped.
 #[derive(Drop)]
 pub struct Store<D: Area + Drop, G: Drop> {
     /// The store, which is up where it was opened. Its calls are those of a store in one thread.
@@ -31,21 +31,23 @@ impl<'a, R: Files, P: AsPath> Store<StoreArea<&'a StoreFolder<R, P>>, R::File>
 where
     R::File: SharedFile,
 {
-    /// Opens the store of this size that is in the folder, and recovers it: it is up, and has the last content that was stable.
-    /// What other processes do to the files, and whether the system keeps them, no proof can say.
+    /// Opens the store of this size that is in the folder, and recovers it: it is up, and has the last content that was
+    /// stable. What other processes do to the files, and whether the system keeps them, no proof can say.
     ///
     /// # Errors
     ///
-    /// `Folder` where another process has the store open, or the system refused something: `folder.fault()` says what, and
-    /// why. `BadGeometry` where the files are not those of this size. `NotUp` with what the recovery is refused for, a fault of a
-    /// device, or `NoMemory`: opened again, it begins again.
+    /// `Folder` where another process has the store open, or the system refused something: `folder.fault()` says what,
+    /// and why. `BadGeometry` where the files are not those of this size. `NotUp` with what the recovery is refused
+    /// for, a fault of a device, or `NoMemory`: opened again, it begins again.
     pub fn open(
         alloc: Global,
         folder: &'a StoreFolder<R, P>,
         geometry: Geometry,
     ) -> Result<FolderStore<'a, R, P>, StoreOpenFault>
-        ensures up { IfOk result (λ store. (observed ⟦<StoreArea<&'a StoreFolder<R, P>> as Area>⟧ store.world).up ≡ true) }
-        ensures geometry { IfOk result (λ store. phase_geometry ⟦<StoreArea<&'a StoreFolder<R, P>> as Area>⟧ store.world.phase ≡ Some geometry) }
+        ensures up { IfOk result (λ store. (observed ⟦<StoreArea<&'a StoreFolder<R, P>> as Area>⟧ store.world).up
+            ≡ true) }
+        ensures geometry { IfOk result (λ store.
+            phase_geometry ⟦<StoreArea<&'a StoreFolder<R, P>> as Area>⟧ store.world.phase ≡ Some geometry) }
         ensures bad_threads { result ≢ Err StoreOpenFault.BadThreads }
     {
         let OpenStore { areas, guard } = folder.open(&geometry)?;
@@ -53,20 +55,23 @@ where
         Ok(Store { world, guard })
     }
 
-    /// Opens the store that is in the folder, of the size that its own file says, or, where there is none, the
-    /// lengths of its files tell, with so many threads a node, 1 to 16: the files do not tell these. Else as `open`.
+    /// Opens the store that is in the folder, of the size that its own file says, or, where there is none, the lengths
+    /// of its files tell. A node has so many threads, 1 to 16: the files do not tell these. Else as `open`.
     ///
     /// # Errors
     ///
-    /// `BadThreads` exactly where the threads are 0 or more than 16, before the folder is asked anything; `NoStore` where the
-    /// files are those of no store; and as of `open`.
+    /// `BadThreads` exactly where the threads are 0 or more than 16, before the folder is asked anything; `NoStore`
+    /// where the files are those of no store; and as of `open`.
     pub fn open_as_found(
         alloc: Global,
         folder: &'a StoreFolder<R, P>,
         threads: u16,
     ) -> Result<FolderStore<'a, R, P>, StoreOpenFault>
-        ensures up { IfOk result (λ store. (observed ⟦<StoreArea<&'a StoreFolder<R, P>> as Area>⟧ store.world).up ≡ true) }
-        ensures geometry { IfOk result (λ store. (g : Sizes) × (phase_geometry ⟦<StoreArea<&'a StoreFolder<R, P>> as Area>⟧ store.world.phase ≡ Some g) × (g.threads ≡ threads)) }
+        ensures up { IfOk result (λ store. (observed ⟦<StoreArea<&'a StoreFolder<R, P>> as Area>⟧ store.world).up
+            ≡ true) }
+        ensures geometry { IfOk result (λ store. (g : Sizes)
+            × (phase_geometry ⟦<StoreArea<&'a StoreFolder<R, P>> as Area>⟧ store.world.phase ≡ Some g)
+            × (g.threads ≡ threads)) }
         ensures bad_threads { (result ≡ Err StoreOpenFault.BadThreads) ↔ IsNoThreadCount threads }
     {
         Store::open(alloc, folder, found(alloc, folder, threads)?)

@@ -9,11 +9,11 @@ use lc_recover::RecoverFault;
 use std::fmt;
 use thiserror::Error;
 
-/// Why a store in a folder is not opened. This project's own.
+/// Why a store in a folder is not opened.
 #[derive(Clone, Copy, PartialEq, Eq, Error)]
 pub enum StoreOpenFault {
-    /// The folder or one of its files could not be opened, or another process has the store open; `StoreFolder::fault` says
-    /// what, and why.
+    /// The folder or one of its files could not be opened, or another process has the store open; `StoreFolder::fault`
+    /// says what, and why.
     #[error("the files of the store could not be opened")]
     Folder(FolderFault),
     /// No file of the folder says the store's size, and the others are those of no store.
@@ -22,8 +22,8 @@ pub enum StoreOpenFault {
     /// A node has 1 to 16 threads.
     #[error("a node has 1 to 16 threads")]
     BadThreads,
-    /// The file of this area has not the length of the geometry, or is one too many, or the store's own file says another size, whose
-    /// files differ first at this area; the areas are the logs of the nodes and then the segments.
+    /// The file of this area has not the length of the geometry, or is one too many, or the store's own file says
+    /// another size, whose files differ first at this area. The areas are the logs of the nodes and then the segments.
     #[error("area {area} does not fit the geometry")]
     BadGeometry { area: u32 },
     /// The store does not come up: its recovery is refused, a device failed in it, or there is no memory for it.

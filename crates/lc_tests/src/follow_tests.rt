@@ -126,7 +126,8 @@ fn a_script_that_is_read_whole_gives_no_reply(rt: HostRuntime) -> Result<(), Fai
 // The bytes of the longest line, with its end.
 const LONGEST_LINE: usize = 1_048_576;
 
-// A comment of so many bytes with its end, so many times, and then a line that prints something. It gives at most so many bytes at once.
+// A comment of so many bytes with its end, so many times, and then a line that prints something. It gives at most so
+// many bytes at once.
 #[derive(Drop)]
 struct Comments {
     len: usize,

@@ -412,7 +412,8 @@ fn an_interrupted_call_is_noted_until_the_next(rt: HostRuntime) -> Result<(), Fa
     Ok(())
 }
 
-// A run of a script, given byte by byte, of which one read fails with so many bytes left, into a writer with so much room.
+// A run of a script, given byte by byte, of which one read fails with so many bytes left, into a writer with so much
+// room.
 fn run_failing(
     rt: &impl AllocGlobal,
     fails_at: usize,

@@ -139,7 +139,8 @@ pub(crate) const LOCKED: &str = "open store\nlock store\n";
 pub(crate) const READING: &str =
     "sync store/log0\nsync store/seg1\nread store/log0\nread store/seg1\n";
 
-// Its recovery where no page is behind: the areas are synced and read, and the log, which is empty, has nothing to be synced.
+// Its recovery where no page is behind: the areas are synced and read, and the log, which is empty, has nothing to be
+// synced.
 pub(crate) const RECOVERING: &str = READING;
 
 // The writing of its page.
@@ -265,7 +266,7 @@ pub(crate) fn check_calls(rt: &impl Abort, row: &impl Display, calls: &str, piec
             ),
         }
     }
-    equal_texts(rt, &format_args!("{row}, the calls behind"), rest, "");
+    equal_texts(rt, &format_args!("{row}, the calls after them"), rest, "");
 }
 
 // Asks this, looks at what comes of it but for what is printed, and answers that.

@@ -58,7 +58,8 @@ pub(crate) struct Pair {
     ghost two: { length cluster.members.items ≡ 2 },
 }
 
-/// Two nodes over a store of zeros, and the first seat of each: segment 2 begins at the first node, segment 1 at the second.
+/// Two nodes over a store of zeros, and the first seat of each: segment 2 begins at the first node, segment 1 at the
+/// second.
 pub(crate) fn opened_pair(alloc: Global, words: u32) -> Result<(Pair, CommitSeat, CommitSeat), Fail>
     ensures first { IfOk result (λ made. IsSeatAt made.0.cluster 0 made.1) }
     ensures second { IfOk result (λ made. IsSeatAt made.0.cluster 1 made.2) }

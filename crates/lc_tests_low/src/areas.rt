@@ -76,7 +76,7 @@ fn a_fuse_fails_the_calls_that_it_was_told(rt: HostRuntime) -> Result<(), Fail> 
     for (is_from, number, wanted) in &CALLS {
         equal(
             &rt,
-            &format_args!("{number}, and all behind it: {is_from}"),
+            &format_args!("{number}, and all after it: {is_from}"),
             &failing(rt.alloc(), *is_from, *number)?,
             wanted,
         );

@@ -21,8 +21,8 @@ const CROWD: usize = 16;
 
 const ADDITIONS_OF_EACH: u64 = 2_000;
 
-// A holder sleeps at one addition of so many, and else lets others run up to so many times: so some holds are just as long as a
-// thread looks before it sleeps.
+// A holder sleeps at one addition of so many, and else lets others run up to so many times: so some holds are just as
+// long as a thread looks before it sleeps.
 const SLEEPS_ONCE_IN: u64 = 97;
 
 const YIELDS: u64 = 24;

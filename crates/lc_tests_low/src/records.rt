@@ -415,7 +415,8 @@ fn the_first_two_words_have_fields(rt: HostRuntime) {
     assert!(rt; is_front(LETTERS[0], LETTERS[1]));
 }
 
-// Whether these are the first two words of a record of the first version, of node 7, with 2 locks and 3 ranges in 17 words.
+// Whether these are the first two words of a record of the first version, of node 7, with 2 locks and 3 ranges in 17
+// words.
 fn is_front(first: u64, second: u64) -> bool {
     let is_first = gate(first) == 0xa5 && version(first) == 1;
     let is_long = range_count(first) == 3 && length(first) == 17;

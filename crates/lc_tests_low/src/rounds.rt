@@ -86,9 +86,11 @@ fn gather<D: Area + Drop>(
     taken: &mut Vec<Taken>,
 ) -> Option<NodeLog<D>>
     requires own { IsFlusherOf stage.now flusher.old × (stage.now.room ≤ group.old.room) }
-    requires log { HoldsTaken D.Area log.area log.end (flush_view flusher.old).taken × (8 * stage.now.room + 8 ≤ length (D.now log.area)) }
+    requires log { HoldsTaken D.Area log.area log.end (flush_view flusher.old).taken
+        × (8 * stage.now.room + 8 ≤ length (D.now log.area)) }
     ensures own { IsFlusherOf stage.now flusher.new × (group.new.room ≡ group.old.room) }
-    ensures log { IfSome result (λ l. HoldsTaken D.Area l.area l.end (flush_view flusher.new).taken × (8 * stage.now.room + 8 ≤ length (D.now l.area))) }
+    ensures log { IfSome result (λ l. HoldsTaken D.Area l.area l.end (flush_view flusher.new).taken
+        × (8 * stage.now.room + 8 ≤ length (D.now l.area))) }
     ensures published { IfSome result (λ _. HasPublished (flush_view flusher.old) (flush_view flusher.new)) }
 {
     let start = log.end;
@@ -108,11 +110,14 @@ fn gather_and_seal<D: Area + Drop>(
     taken: &mut Vec<Taken>,
 ) -> Option<(NodeLog<D>, usize)>
     requires own { IsFlusherOf stage.now flusher.old × IsSeatOf stage.now seat.old × (stage.now.room ≤ group.old.room) }
-    requires log { HoldsTaken D.Area log.area log.end (flush_view flusher.old).taken × (8 * stage.now.room + 8 ≤ length (D.now log.area)) }
+    requires log { HoldsTaken D.Area log.area log.end (flush_view flusher.old).taken
+        × (8 * stage.now.room + 8 ≤ length (D.now log.area)) }
     requires uncleared { IsUncleared (flush_view flusher.old) }
     ensures own { IsFlusherOf stage.now flusher.new × IsSeatOf stage.now seat.new × (group.new.room ≡ group.old.room) }
-    ensures log { IfSome result (λ r. HoldsTaken D.Area r.0.area r.0.end (flush_view flusher.new).taken × (8 * stage.now.room + 8 ≤ length (D.now r.0.area))) }
-    ensures sealed { IfSome result (λ r. ((flush_view flusher.new).sealed ≡ true) × ((flush_view flusher.new).sealed_at ≡ r.1) × (0 < r.1)) }
+    ensures log { IfSome result (λ r. HoldsTaken D.Area r.0.area r.0.end (flush_view flusher.new).taken
+        × (8 * stage.now.room + 8 ≤ length (D.now r.0.area))) }
+    ensures sealed { IfSome result (λ r. ((flush_view flusher.new).sealed ≡ true)
+        × ((flush_view flusher.new).sealed_at ≡ r.1) × (0 < r.1)) }
     ensures uncleared { OnSome result (IsUncleared (flush_view flusher.new)) }
 {
     let mut log = log;
@@ -142,11 +147,13 @@ fn gather_rest<D: Area + Drop>(
     end: usize,
 ) -> Option<NodeLog<D>>
     requires own { IsFlusherOf stage.now flusher.old × (stage.now.room ≤ group.old.room) }
-    requires log { HoldsTaken D.Area log.area log.end (flush_view flusher.old).taken × (8 * stage.now.room + 8 ≤ length (D.now log.area)) }
+    requires log { HoldsTaken D.Area log.area log.end (flush_view flusher.old).taken
+        × (8 * stage.now.room + 8 ≤ length (D.now log.area)) }
     requires sealed { ((flush_view flusher.old).sealed ≡ true) × ((flush_view flusher.old).sealed_at ≡ end) }
     requires uncleared { IsUncleared (flush_view flusher.old) }
     ensures own { IsFlusherOf stage.now flusher.new × (group.new.room ≡ group.old.room) }
-    ensures log { IfSome result (λ l. HoldsTaken D.Area l.area l.end (flush_view flusher.new).taken × (8 * stage.now.room + 8 ≤ length (D.now l.area))) }
+    ensures log { IfSome result (λ l. HoldsTaken D.Area l.area l.end (flush_view flusher.new).taken
+        × (8 * stage.now.room + 8 ≤ length (D.now l.area))) }
     ensures settled { OnSome result (IsSettled (flush_view flusher.new) × ((flush_view flusher.new).sealed_at ≡ end)) }
     ensures uncleared { OnSome result (IsUncleared (flush_view flusher.new)) }
 {
@@ -163,7 +170,8 @@ fn gather_rest<D: Area + Drop>(
 
 // A log without records.
 fn emptied<D: Area + Drop>(log: NodeLog<D>) -> Option<NodeLog<D>>
-    requires idle { D.honest log.area ≡ true → (records : List Record) × IsAtRest (D.now log.area) (D.dirty log.area) log.end records }
+    requires idle { D.honest log.area ≡ true
+        → (records : List Record) × IsAtRest (D.now log.area) (D.dirty log.area) log.end records }
     ensures empty { IfSome result (λ l. HoldsTaken D.Area l.area l.end []) }
     ensures length { IfSome result (λ l. length (D.now l.area) ≡ length (D.now log.area)) }
 {
@@ -205,10 +213,12 @@ fn flush_round<D: Area + Drop>(
     taken: &mut Vec<Taken>,
 ) -> Option<NodeLog<D>>
     requires own { IsFlusherOf stage.now flusher.old × IsSeatOf stage.now seat.old × (stage.now.room ≤ group.old.room) }
-    requires log { HoldsTaken D.Area log.area log.end (flush_view flusher.old).taken × (8 * stage.now.room + 8 ≤ length (D.now log.area)) }
+    requires log { HoldsTaken D.Area log.area log.end (flush_view flusher.old).taken
+        × (8 * stage.now.room + 8 ≤ length (D.now log.area)) }
     requires uncleared { IsUncleared (flush_view flusher.old) }
     ensures own { IsFlusherOf stage.now flusher.new × IsSeatOf stage.now seat.new × (group.new.room ≡ group.old.room) }
-    ensures log { IfSome result (λ l. HoldsTaken D.Area l.area l.end (flush_view flusher.new).taken × (8 * stage.now.room + 8 ≤ length (D.now l.area))) }
+    ensures log { IfSome result (λ l. HoldsTaken D.Area l.area l.end (flush_view flusher.new).taken
+        × (8 * stage.now.room + 8 ≤ length (D.now l.area))) }
     ensures uncleared { OnSome result (IsUncleared (flush_view flusher.new)) }
 {
     let (sealed, end) = gather_and_seal(stage, flusher, seat, group, log, round, taken)?;
@@ -230,7 +240,8 @@ fn flush_rounds<D: Area + Drop>(
     log: NodeLog<D>,
 ) -> Option<Vec<Taken>>
     requires own { IsFlusherOf stage.now flusher × IsSeatOf stage.now seat × (stage.now.room ≤ group.room) }
-    requires log { HoldsTaken D.Area log.area log.end (flush_view flusher).taken × (8 * stage.now.room + 8 ≤ length (D.now log.area)) }
+    requires log { HoldsTaken D.Area log.area log.end (flush_view flusher).taken
+        × (8 * stage.now.room + 8 ≤ length (D.now log.area)) }
     requires uncleared { IsUncleared (flush_view flusher) }
 {
     let mut log = log;
@@ -374,7 +385,8 @@ fn sixteen_threads_over_rounds(rt: HostRuntime) -> Result<(), Fail> {
     let (taken, told) = join(
         &rt,
         || -> Option<Vec<Taken>>
-            requires { IsFlusherOf shared.now flusher × IsSeatOf shared.now seat × (shared.now.room ≡ 64) × (flush_view flusher ≡ first_view 64) }
+            requires { IsFlusherOf shared.now flusher × IsSeatOf shared.now seat × (shared.now.room ≡ 64)
+                × (flush_view flusher ≡ first_view 64) }
         { flush_in_memory(alloc, shared, flusher, seat) },
         || {
             map_vec(

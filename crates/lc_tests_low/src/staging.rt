@@ -1,5 +1,6 @@
 //! Two seats, a thread that is held, and the round after an ended one.
-ghost use Rattle.std.specs.Prelude.{◌≡◌, ◌≢◌, ℕ, ◌+◌, ◌*◌, ◌%◌, ◌<◌, ◌≤◌, ◌^◌, true, false, [], length, slice_index, IfSome};
+ghost use Rattle.std.specs.Prelude.{◌≡◌, ◌≢◌, ℕ, ◌+◌, ◌*◌, ◌%◌, ◌<◌, ◌≤◌, ◌^◌, true, false, [], length, slice_index};
+ghost use Rattle.std.specs.Prelude.{IfSome};
 ghost use Rattle.lc_stage.specs.Seats.{commit_view, flush_view, IsSeatOf, IsFlusherOf, IsIdle, IsFresh, IsSettled};
 ghost use Rattle.lc_stage.specs.Publishing.{HoldsTaken, HasPublished};
 
@@ -83,9 +84,11 @@ pub(crate) fn settle<D: Area + Drop>(
     log: NodeLog<D>,
 ) -> Option<NodeLog<D>>
     requires own { IsFlusherOf stage.now flusher.old × (stage.now.room ≤ group.old.room) }
-    requires log { HoldsTaken D.Area log.area log.end (flush_view flusher.old).taken × (8 * stage.now.room + 8 ≤ length (D.now log.area)) }
+    requires log { HoldsTaken D.Area log.area log.end (flush_view flusher.old).taken
+        × (8 * stage.now.room + 8 ≤ length (D.now log.area)) }
     ensures own { IsFlusherOf stage.now flusher.new × (group.new.room ≡ group.old.room) }
-    ensures log { IfSome result (λ l. HoldsTaken D.Area l.area l.end (flush_view flusher.new).taken × (8 * stage.now.room + 8 ≤ length (D.now l.area))) }
+    ensures log { IfSome result (λ l. HoldsTaken D.Area l.area l.end (flush_view flusher.new).taken
+        × (8 * stage.now.room + 8 ≤ length (D.now l.area))) }
     ensures published { IfSome result (λ _. HasPublished (flush_view flusher.old) (flush_view flusher.new)) }
 {
     let words = stage.take(flusher, group);
@@ -122,9 +125,12 @@ fn seal_at(stage: &Stage, flusher: &mut FlushSeat, seat: &mut CommitSeat, offset
     requires own { IsFlusherOf stage.now flusher.old × IsSeatOf stage.now seat.old }
     ensures own { IsFlusherOf stage.now flusher.new × IsSeatOf stage.now seat.new }
     ensures idle { IsIdle (commit_view seat.old) → IsIdle (commit_view seat.new) }
-    ensures sealed { result ≡ true → ((flush_view flusher.new).sealed ≡ true) × ((flush_view flusher.new).sealed_at ≡ offset) }
-    ensures taken { ((flush_view flusher.new).taken ≡ (flush_view flusher.old).taken) × ((flush_view flusher.new).cleared ≡ (flush_view flusher.old).cleared) }
-    ensures before { ((flush_view flusher.new).ended ≡ (flush_view flusher.old).ended) × ((flush_view flusher.new).ended_cleared ≡ (flush_view flusher.old).ended_cleared) }
+    ensures sealed { result ≡ true → ((flush_view flusher.new).sealed ≡ true)
+        × ((flush_view flusher.new).sealed_at ≡ offset) }
+    ensures taken { ((flush_view flusher.new).taken ≡ (flush_view flusher.old).taken)
+        × ((flush_view flusher.new).cleared ≡ (flush_view flusher.old).cleared) }
+    ensures before { ((flush_view flusher.new).ended ≡ (flush_view flusher.old).ended)
+        × ((flush_view flusher.new).ended_cleared ≡ (flush_view flusher.old).ended_cleared) }
 {
     let at = stage.tail(seat);
     stage.note(flusher, seat);
@@ -271,12 +277,14 @@ fn end_nineteen<D: Area + Drop>(
     log: NodeLog<D>,
 ) -> bool
     requires own { IsFlusherOf stage.now flusher.old × IsSeatOf stage.now seat.old × (stage.now.room ≤ group.old.room) }
-    requires log { HoldsTaken D.Area log.area log.end (flush_view flusher.old).taken × (8 * stage.now.room + 8 ≤ length (D.now log.area)) }
+    requires log { HoldsTaken D.Area log.area log.end (flush_view flusher.old).taken
+        × (8 * stage.now.room + 8 ≤ length (D.now log.area)) }
     ensures own { IsFlusherOf stage.now flusher.new × IsSeatOf stage.now seat.new × (group.new.room ≡ group.old.room) }
     ensures idle { IsIdle (commit_view seat.old) → IsIdle (commit_view seat.new) }
     ensures settled { result ≡ true → IsSettled (flush_view flusher.new) × ((flush_view flusher.new).sealed_at ≡ 19) }
     ensures uncleared { result ≡ true → (flush_view flusher.new).cleared ≡ (flush_view flusher.old).cleared }
-    ensures before { result ≡ true → ((flush_view flusher.new).ended ≡ (flush_view flusher.old).ended) × ((flush_view flusher.new).ended_cleared ≡ (flush_view flusher.old).ended_cleared) }
+    ensures before { result ≡ true → ((flush_view flusher.new).ended ≡ (flush_view flusher.old).ended)
+        × ((flush_view flusher.new).ended_cleared ≡ (flush_view flusher.old).ended_cleared) }
 {
     if !seal_at(stage, flusher, seat, 19) {
         return false;

@@ -10,8 +10,8 @@ use std::process::Abort;
 use std::test::Fail;
 
 // The record of node 0 under locks 1:5 and 2:7, with the byte 11 at 0 in segment 1 and 22 at 0 in segment 2, in
-// hexadecimal. After its 13 words stands the record of node 0 under lock 1:3 with the bytes "hello" at 3 in segment 1,
-// in 8 words.
+// hexadecimal. It has 13 words. After them stands the record of node 0 under lock 1:3 with the bytes "hello" at 3 in
+// segment 1, in 8 words.
 const LOG: [u64; 21] = [
     0xd_0002_01a5,
     0x2_0000,
@@ -119,7 +119,7 @@ fn counted(rt: &impl Abort, token: Token) -> Result<Token, TokenFault> {
     let seq = token.seq();
     assert!(rt;
         segment == 1,
-        "behind {seq}: segment {segment}, where 1 is wanted"
+        "after {seq}: segment {segment}, where 1 is wanted"
     );
     assert!(rt; seq < 10, "{seq}, where less than 10 is wanted");
     let mut place = TokenPlace::new(1, Some(token));

@@ -190,7 +190,8 @@ fn a_token_of_another_number_than_its_records_is_named(rt: HostRuntime) -> Resul
     Ok(())
 }
 
-// Each of the two has a record of number 2 of a segment in front of one of number 1 of the other, so neither can be the first.
+// Each of the two has a record of number 2 of a segment in front of one of number 1 of the other, so neither can be the
+// first.
 #[test]
 fn a_log_is_named_where_no_record_is_the_next(rt: HostRuntime) -> Result<(), Fail> {
     let alloc = rt.alloc();

@@ -64,7 +64,8 @@ fn opened<D: Area + Drop>(
 ) -> Result<(Cluster<D>, Vec<CommitSeat>), Fail>
     ensures nodes { IfOk result (λ made. length made.0.members.items ≡ geometry.nodes) }
     ensures count { IfOk result (λ made. length made.1.items ≡ geometry.nodes) }
-    ensures seats { IfOk result (λ made. (node : ℕ) (seat : Seat) → slice_get made.1.items node ≡ Some seat → IsSeatAt made.0 node seat) }
+    ensures seats { IfOk result (λ made. (node : ℕ) (seat : Seat) → slice_get made.1.items node ≡ Some seat
+        → IsSeatAt made.0 node seat) }
 {
     match Cluster::open(alloc, recovered(alloc, geometry, areas)?) {
         Ok(made) => Ok(made),
@@ -75,7 +76,8 @@ fn opened<D: Area + Drop>(
 /// No seat of so many nodes.
 pub(crate) fn no_seats(alloc: Global, nodes: u16) -> Result<Vec<Vec<CommitSeat>>, AllocError>
     ensures count { IfOk result (λ seats. length seats.items ≡ nodes) }
-    ensures none { IfOk result (λ seats. (node : ℕ) (mine : Several Seat) → slice_get seats.items node ≡ Some mine → mine.items ≡ []) }
+    ensures none { IfOk result (λ seats. (node : ℕ) (mine : Several Seat) → slice_get seats.items node ≡ Some mine
+        → mine.items ≡ []) }
 {
     let mut seats = Vec::new(alloc);
     for _ in 0..nodes {
@@ -234,7 +236,8 @@ fn workers<'a, D: Area + Drop>(
     requires some { 2 ≤ length cluster.now.members.items }
     requires few { length cluster.now.members.items ≤ 8 }
     requires count { length seats.items ≡ length cluster.now.members.items }
-    requires seats { (node : ℕ) (seat : Seat) → slice_get seats.items node ≡ Some seat → IsSeatAt cluster.now node seat }
+    requires seats { (node : ℕ) (seat : Seat) → slice_get seats.items node ≡ Some seat
+        → IsSeatAt cluster.now node seat }
 {
     let mut seats = seats;
     let mut workers = Vec::new(alloc);
@@ -458,7 +461,8 @@ fn honest_runs_come_up_with_all_that_was_closed(rt: HostRuntime) -> Result<(), F
     Ok(())
 }
 
-// Commits a byte of its own at the segment whose token begins at the thread's node, one of two, and confirms its receipt.
+// Commits a byte of its own at the segment whose token begins at the thread's node, one of two, and confirms its
+// receipt.
 fn commit_one<D: Area + Drop, R: Wait>(rt: &R, alloc: Global, worker: Worker<D>) -> Marks {
     let Worker {
         node,
@@ -519,7 +523,8 @@ fn two_segments() -> Result<Geometry, Fail>
     Ok(Geometry::new(2, 1, 2, 2, WORDS).ok_or("these numbers are a geometry")?)
 }
 
-// Commits a byte at the offset of its value, and confirms its receipt; the seat that has it, and whether its record is there.
+// Commits a byte at the offset of its value, and confirms its receipt; the seat that has it, and whether its record is
+// there.
 fn commit_and_confirm<R: Wait>(
     rt: &R,
     alloc: Global,

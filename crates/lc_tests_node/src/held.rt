@@ -100,7 +100,7 @@ fn a_caller_commits_twice_under_its_locks(rt: HostRuntime) -> Result<(), Fail> {
     node.release(held);
     equal(&rt, &"the first commit", &one, &Ok(true));
     equal(&rt, &"one that reads alone", &read, &Ok(false));
-    equal(&rt, &"the commit behind it", &two, &Ok(true));
+    equal(&rt, &"the commit after it", &two, &Ok(true));
     equal(
         &rt,
         &"what was read",

@@ -127,7 +127,8 @@ fn parts_of<D: Area + Drop, R: Wait>(
     }
 }
 
-/// What two nodes leave that have done this. Each segment has so many pages; segment 2 begins at node 0, segment 1 at node 1.
+/// What two nodes leave that have done this. Each segment has so many pages; segment 2 begins at node 0, segment 1 at
+/// node 1.
 pub(crate) fn left<R: Wait>(
     rt: &R,
     alloc: Global,

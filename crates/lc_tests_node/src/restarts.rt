@@ -41,7 +41,7 @@ fn what_was_stable_is_read_and_goes_on(rt: HostRuntime) -> Result<(), Fail> {
     assert!(rt; confirmed == Confirmed::Here(0), "the log was empty");
     assert!(rt;
         number_in(&rt, folder)? == 2,
-        "the number behind the recovered one"
+        "the number after the recovered one"
     );
     let (_seat, told) = put_and_confirm(&rt, alloc, &node, seat, &[2], BEHIND);
     assert!(rt; told.is_some(), "it is stable");

@@ -118,7 +118,8 @@ fn perform<D: Area + Drop, R: Wait>(
     }
 }
 
-// Sends, takes, and hands one token after another on, until all have committed. Whether it empties the log too, it is told.
+// Sends, takes, and hands one token after another on, until all have committed. Whether it empties the log too, it is
+// told.
 fn carry<D: Area + Drop, R: Wait>(
     rt: &R,
     alloc: Global,
@@ -284,7 +285,8 @@ fn workers<'a, 'b>(
 ) -> Result<Vec<Worker<'a, SharedArea<'b>>>, AllocError>
     requires four { length cluster.now.members.items ≡ 4 }
     requires count { length seats.items ≡ 4 }
-    requires seats { (node : ℕ) (seat : Seat) → slice_get seats.items node ≡ Some seat → IsSeatAt cluster.now node seat }
+    requires seats { (node : ℕ) (seat : Seat) → slice_get seats.items node ≡ Some seat
+        → IsSeatAt cluster.now node seat }
 {
     let mut seats = seats;
     let mut workers = Vec::new(alloc);
@@ -406,7 +408,8 @@ fn keeps_all<R: Threads + Wait + Sync>(
     Ok(quiet && has_all(rt, alloc, &cluster, &store, marks.as_slice()))
 }
 
-// Whether each node and the store have the same, with the last mark of each thread and as many records as there were commits.
+// Whether each node and the store have the same, with the last mark of each thread and as many records as there were
+// commits.
 fn has_all<R: Wait>(
     rt: &R,
     alloc: Global,

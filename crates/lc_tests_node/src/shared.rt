@@ -133,7 +133,8 @@ impl Area for SharedArea<'_> {
 // No call fails.
 const NEVER: When = When::At(0);
 
-/// An area that fails as its fuse says. What it was told to write, where it did not fail, is in bytes that outlive it too.
+/// An area that fails as its fuse says. What it was told to write, where it did not fail, is in bytes that outlive it
+/// too.
 #[derive(Drop)]
 pub(crate) struct Mirror<'a> {
     fuse: Fuse,

@@ -49,7 +49,8 @@ const APPLIED_AT_BOTH: &[(u16, Act)] = &[
     (SECOND, Act::Trim(0)),
 ];
 
-// The record of number 1 is in the log of the second node, which is not emptied; that of number 2 in that of the first, which is.
+// The record of number 1 is in the log of the second node, which is not emptied; that of number 2 in that of the first,
+// which is.
 const SECOND_NUMBER: &[(u16, Act)] = &[
     (SECOND, Act::Commit(ONE)),
     (SECOND, Act::Spread),

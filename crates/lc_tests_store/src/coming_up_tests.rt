@@ -55,11 +55,7 @@ fn a_log_of_another_node_stays_down(rt: HostRuntime) -> Result<(), Fail> {
             &format_args!("time {time} is refused"),
             world.recover(alloc) == Err(refused),
         );
-        holds(
-            &rt,
-            &format_args!("down behind time {time}"),
-            !world.is_up(),
-        );
+        holds(&rt, &format_args!("down after time {time}"), !world.is_up());
     }
     Ok(())
 }

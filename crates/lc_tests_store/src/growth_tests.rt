@@ -91,8 +91,8 @@ fn begin_so(replies: &[Reply], script: &[(&str, &str)]) -> bool {
             .all(|(reply, (_, wanted))| says(reply, wanted))
 }
 
-// The replies of a run are those of the first lines. A line that there was no memory for is one that may ask for some, or there
-// was no room for the replies.
+// The replies of a run are those of the first lines. A line that there was no memory for is one that may ask for some,
+// or there was no room for the replies.
 fn goes_so(ran: &RunResult, script: &[(&str, &str)]) -> bool {
     let replies = &ran.replies;
     let is_right = match script.get(replies.len()) {

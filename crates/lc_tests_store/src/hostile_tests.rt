@@ -320,7 +320,8 @@ fn comes_up_again(alloc: Global, world: &mut World<Fuse>, seen: &mut Seen) -> Re
     Err(Fail::from("a recovery ends"))
 }
 
-// This call of this area fails, and the stop is that of this line; how many faults are seen in all events, a stop and a recovery.
+// This call of this area fails, and the stop is that of this line; how many faults are seen in all events, a stop and a
+// recovery.
 fn fails_once(
     rt: &impl Abort,
     alloc: Global,

@@ -172,9 +172,9 @@ impl Teller for Noted {
     }
 }
 
-// The call of the segment that fails, if it is not 0; the steps that are told, and the status. The log and the segment are
-// synced and then read, in four steps, and merged in one. The page takes six, and the log is reset in two, of which the last
-// is not told as a step.
+// The call of the segment that fails, if it is not 0; the steps that are told, and the status. The log and the segment
+// are synced and then read, in four steps, and merged in one. The page takes six, and the log is reset in two, of which
+// the last is not told as a step.
 static TOLD: [(u8, u64, u8); 4] = [(0, 12, 0), (1, 1, 3), (5, 7, 3), (8, 10, 3)];
 
 #[test]

@@ -103,8 +103,8 @@ fn recovered<D: Area + Drop>(
     }
 }
 
-// The areas of a store of one page that was never written, and of a log that has "hello" for its front, under number 1. This
-// call of the log fails, and this one of the segment; none where it is 0.
+// The areas of a store of one page that was never written, and of a log that has "hello" for its front, under number 1.
+// This call of the log fails, and this one of the segment; none where it is 0.
 fn hello_areas(alloc: Global, log: u32, segment: u32) -> Result<Vec<Fuse>, AllocError> {
     let mut areas = Vec::with_capacity(alloc, 2)?;
     let area = log_area(alloc, &hello(0, 1, 1, 0))?;
@@ -178,8 +178,8 @@ fn comes_to_hello<D: Area + Drop>(
     Ok(())
 }
 
-// Makes so many steps, as far as no call fails, and tells how many were made. A call that failed is answered as a device fault,
-// and the recovery begins again.
+// Makes so many steps, as far as no call fails, and tells how many were made. A call that failed is answered as a
+// device fault, and the recovery begins again.
 fn walk<D: Area>(
     rt: &impl Abort,
     row: &impl Display,
@@ -405,7 +405,8 @@ fn each_page_takes_six_steps_and_each_log_two(rt: HostRuntime) -> Result<(), Fai
 // Node, segment, number and offset of a record.
 type Stands = (u16, u32, u64, u32);
 
-// The first fault in the recovery of a store of one log with these records, and one segment of one page with these slots.
+// The first fault in the recovery of a store of one log with these records, and one segment of one page with these
+// slots.
 fn refusal_of(
     alloc: Global,
     records: &[Stands],
@@ -500,7 +501,8 @@ fn the_first_log_with_another_node_is_named(rt: HostRuntime) -> Result<(), Fail>
     Ok(())
 }
 
-// The first and the last byte of the page that a store of one log and one page comes to, and its number, in so many steps.
+// The first and the last byte of the page that a store of one log and one page comes to, and its number, in so many
+// steps.
 fn page_of(
     alloc: Global,
     words: &[u64],

@@ -1,7 +1,8 @@
 //! What is left of a line, taken word by word.
 ghost use Rattle.std.specs.Prelude.{◌≡◌, ◌<◌, length, option_map, vec_items, IfOk, OnErr, OnSome};
 ghost use Rattle.std.specs.List.{prefix_len, position_or_len};
-ghost use Rattle.lc_text.specs.Line.{is_space, words, bytes_of, first, u16_of, u32_of, u64_of, lock_of, all_locks, no_more, Takes};
+ghost use Rattle.lc_text.specs.Line.{is_space, words, bytes_of, first, u16_of, u32_of, u64_of, lock_of, all_locks};
+ghost use Rattle.lc_text.specs.Line.{no_more, Takes};
 
 use crate::digits::{bytes, number, u16_number, u32_number};
 use std::alloc::{AllocError, Global};
@@ -36,7 +37,8 @@ impl<'a> Fields<'a> {
 
     /// The next word.
     pub fn word(&mut self) -> Option<&'a [u8]>
-        ensures value { Takes (first (λ w. Some w) (words self.old.rest.now)) (option_map (λ w. w.now) result) self.new.rest.now }
+        ensures value { Takes (first (λ w. Some w) (words self.old.rest.now))
+            (option_map (λ w. w.now) result) self.new.rest.now }
         ensures shorter { OnSome result (length self.new.rest.now < length self.old.rest.now) }
     {
         let (_, text) = self.rest.split_at(spaces_len(self.rest));
@@ -71,7 +73,8 @@ impl<'a> Fields<'a> {
 
     /// Bytes, where the next word is hexadecimal digits.
     pub fn bytes(&mut self, alloc: Global) -> Result<Option<Vec<u8>>, AllocError>
-        ensures value { IfOk result (λ found. Takes (first bytes_of (words self.old.rest.now)) (option_map vec_items found) self.new.rest.now) }
+        ensures value { IfOk result (λ found.
+            Takes (first bytes_of (words self.old.rest.now)) (option_map vec_items found) self.new.rest.now) }
         ensures memory { OnErr result (0 < length (words self.old.rest.now)) }
     {
         match self.word() {
@@ -82,7 +85,8 @@ impl<'a> Fields<'a> {
 
     /// A lock for each word that is left, where each is one: the segments to write, and those to read.
     pub fn locks(&mut self, alloc: Global) -> Result<Option<(Vec<u32>, Vec<u32>)>, AllocError>
-        ensures value { IfOk result (λ found. option_map (λ locks. (locks.0.items, locks.1.items)) found ≡ all_locks (words self.old.rest.now)) }
+        ensures value { IfOk result (λ found. option_map (λ locks. (locks.0.items, locks.1.items)) found
+            ≡ all_locks (words self.old.rest.now)) }
         ensures memory { OnErr result (0 < length (words self.old.rest.now)) }
     {
         let mut segments = Vec::new(alloc);

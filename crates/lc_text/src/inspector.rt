@@ -20,7 +20,8 @@ pub fn inspect<W: Write>(
     reverse: bool,
     writer: &mut W,
 ) -> Result<(), ToolFault>
-    ensures shown { OnOk result (Inspects reverse (words_of bytes.now) (W.contents writer.old) (W.contents writer.new)) }
+    ensures shown { OnOk result (Inspects reverse (words_of bytes.now) (W.contents writer.old)
+        (W.contents writer.new)) }
     ensures memory { result ≡ Err ToolFault.NoMemory → Keeps (W.contents writer.old) (W.contents writer.new) }
     ensures asks { result ≡ Err ToolFault.NoMemory → 8 ≤ length bytes.now }
     ensures never_reads { result ≢ Err ToolFault.Read }

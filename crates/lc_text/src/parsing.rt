@@ -1,6 +1,9 @@
 //! Lines of a script.
 ghost use Rattle.std.specs.Prelude.{◌≡◌, ◌<◌, [], ◌∷◌, length, replicate, option_map, IfOk, OnErr, IsTrue};
-ghost use Rattle.lc_text.specs.Line.{words, Takes, thread_of, spot_of, thread_alone, segment_alone, alone, begin_of, range_of, write_of, read_of, deliver_of, page_alone, choice_of, is_skipped, stop_of, node_of, thread_command_of, node_command_of, store_command_of, shown_of, command_of, is_open_ended, line_of};
+ghost use Rattle.lc_text.specs.Line.{words, Takes, thread_of, spot_of, thread_alone, segment_alone, alone, begin_of};
+ghost use Rattle.lc_text.specs.Line.{range_of, write_of, read_of, deliver_of, page_alone, choice_of, is_skipped};
+ghost use Rattle.lc_text.specs.Line.{stop_of, node_of, thread_command_of, node_command_of, store_command_of, shown_of};
+ghost use Rattle.lc_text.specs.Line.{command_of, is_open_ended, line_of};
 
 use crate::command::{Command, Line};
 use crate::digits::pair;
@@ -383,7 +386,8 @@ pub fn is_skipped(line: &[u8]) -> bool
     matches!(line, [] | [b'#', ..])
 }
 
-/// What a line asks for, without what ends it. Only a `begin` with segments, a `write` with bytes and a `stop` take memory.
+/// What a line asks for, without what ends it. Only a `begin` with segments, a `write` with bytes and a `stop` take
+/// memory.
 #[tactic(auto, unfolding(crate::specs::Line::line_of))]
 pub fn parse(alloc: Global, line: &[u8]) -> Result<Line, AllocError>
     ensures value { IfOk result (λ read. read ≡ line_of line.now) }

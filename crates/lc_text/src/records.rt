@@ -28,7 +28,8 @@ fn write_range<W: io::Write>(writer: &mut W, range: &RangeData) -> io::Result<()
 
 /// Writes locks after others.
 fn write_more_locks<W: io::Write>(writer: &mut W, locks: &[Lock]) -> io::Result<()>
-    ensures { OnOk result (Appends (W.contents writer.old) (W.contents writer.new) (flat_map (λ lock. codes "," ++ lock_text lock) locks.now)) }
+    ensures { OnOk result (Appends (W.contents writer.old) (W.contents writer.new)
+        (flat_map (λ lock. codes "," ++ lock_text lock) locks.now)) }
 {
     for lock in locks {
         writer.write_all(b",")?;
@@ -39,7 +40,8 @@ fn write_more_locks<W: io::Write>(writer: &mut W, locks: &[Lock]) -> io::Result<
 
 /// Writes locks with commas between them.
 fn write_locks<W: io::Write>(writer: &mut W, locks: &[Lock]) -> io::Result<()>
-    ensures { OnOk result (Appends (W.contents writer.old) (W.contents writer.new) (join_by lock_text (codes ",") locks.now)) }
+    ensures { OnOk result (Appends (W.contents writer.old) (W.contents writer.new)
+        (join_by lock_text (codes ",") locks.now)) }
 {
     let [first, later @ ..] = locks else {
         return Ok(());
@@ -50,7 +52,8 @@ fn write_locks<W: io::Write>(writer: &mut W, locks: &[Lock]) -> io::Result<()>
 
 /// Writes ranges after others.
 fn write_more_ranges<W: io::Write>(writer: &mut W, ranges: &[RangeData]) -> io::Result<()>
-    ensures { OnOk result (Appends (W.contents writer.old) (W.contents writer.new) (flat_map (λ range. codes "," ++ range_text range) ranges.now)) }
+    ensures { OnOk result (Appends (W.contents writer.old) (W.contents writer.new)
+        (flat_map (λ range. codes "," ++ range_text range) ranges.now)) }
 {
     for range in ranges {
         writer.write_all(b",")?;
@@ -61,7 +64,8 @@ fn write_more_ranges<W: io::Write>(writer: &mut W, ranges: &[RangeData]) -> io::
 
 /// Writes ranges with commas between them.
 fn write_ranges<W: io::Write>(writer: &mut W, ranges: &[RangeData]) -> io::Result<()>
-    ensures { OnOk result (Appends (W.contents writer.old) (W.contents writer.new) (join_by range_text (codes ",") ranges.now)) }
+    ensures { OnOk result (Appends (W.contents writer.old) (W.contents writer.new)
+        (join_by range_text (codes ",") ranges.now)) }
 {
     let [first, later @ ..] = ranges else {
         return Ok(());

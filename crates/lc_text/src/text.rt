@@ -1,7 +1,8 @@
 //! Lines of words and numbers.
 ghost use Rattle.std.specs.Prelude.{OnOk};
 ghost use Rattle.std.specs.Io.KnownBytes.{Appends};
-ghost use Rattle.lc_text.specs.Text.{line, closed_text, truncated_text, line_number_text, not_understood_text, too_long_text, no_memory_text, exists_text};
+ghost use Rattle.lc_text.specs.Text.{line, closed_text, truncated_text, line_number_text, not_understood_text};
+ghost use Rattle.lc_text.specs.Text.{too_long_text, no_memory_text, exists_text};
 
 use std::io;
 

@@ -27,11 +27,11 @@ use std::rt::Files;
 const NO_FILES: &str = "--as-found: a store in memory has no files; --store DIR names one that has
 ";
 
-/// Does what a command line asks for, and answers the status that the program ends with: 0 where it came to its end and nothing
-/// was refused, 1 where something was refused or there was no memory, 2 where something was not understood, 3 where a device
-/// failed. A script comes from the reader. What failed over files, and why, is said on standard error; on a terminal it also shows how
-/// far a recovery is that has more than a thousand pages to write. An `Err` is a fault of
-/// the reader or of the writer.
+/// Does what a command line asks for, and answers the status that the program ends with. It is 0 where the run came to
+/// its end and nothing was refused, and 1 where something was refused or there was no memory. It is 2 where something
+/// was not understood, and 3 where a device failed. A script comes from the reader. What failed over files, and why, is
+/// said on standard error; on a terminal it also shows how far a recovery is that has more than a thousand pages to
+/// write. An `Err` is a fault of the reader or of the writer.
 pub fn answer<R: Files + Eprint, I: Read, W: Write>(
     alloc: Global,
     rt: &R,
@@ -42,7 +42,8 @@ pub fn answer<R: Files + Eprint, I: Read, W: Write>(
 ) -> Result<u8, ScriptFault>
 where
     R::File: SharedFile,
-    ensures answers { IfOk result (λ status. AnswersAsked asked.now (I.remaining reader.old) (W.contents writer.old) (W.contents writer.new) status) }
+    ensures answers { IfOk result (λ status.
+        AnswersAsked asked.now (I.remaining reader.old) (W.contents writer.old) (W.contents writer.new) status) }
 {
     match asked {
         Asked::Run {
@@ -102,7 +103,8 @@ fn run_new<I: Read, W: Write>(
     reader: &mut I,
     writer: &mut W,
 ) -> Result<u8, ScriptFault>
-    ensures runs { IfOk result (λ status. IfSome (I.remaining reader.old) (λ script. RunsNew geometry (given_as manner script) (W.contents writer.old) (W.contents writer.new) status)) }
+    ensures runs { IfOk result (λ status. IfSome (I.remaining reader.old) (λ script.
+        RunsNew geometry (given_as manner script) (W.contents writer.old) (W.contents writer.new) status)) }
 {
     match zero_areas(alloc, &geometry) {
         Ok(areas) => run_told(alloc, geometry, manner, areas, &Silent, reader, writer),
@@ -112,7 +114,8 @@ fn run_new<I: Read, W: Write>(
 
 // Prints a help text.
 fn help<W: Write>(text: &str, writer: &mut W) -> Result<u8, WriteFault>
-    ensures prints { IfOk result (λ status. PrintsHelp text.now (W.contents writer.old) (W.contents writer.new) status) }
+    ensures prints { IfOk result (λ status.
+        PrintsHelp text.now (W.contents writer.old) (W.contents writer.new) status) }
 {
     writer.write_all(text.as_bytes())?;
     Ok(DONE)

@@ -3,7 +3,8 @@ ghost use Rattle.std.specs.Prelude.{◌≡◌, IfOk, OnOk};
 ghost use Rattle.std.specs.Io.KnownBytes.{Appends};
 ghost use Rattle.lc_look.specs.Json.{EndsJson};
 ghost use Rattle.lc_look.specs.Printed.{Adds};
-ghost use Rattle.lc_tool.specs.CheckedJson.{TellsCheck, TellsJson, TellsUnlooked, folder_fault, found_json, misfit_json, opening_fault, size_json, unlooked_json, unsized_json};
+ghost use Rattle.lc_tool.specs.CheckedJson.{TellsCheck, TellsJson, TellsUnlooked, folder_fault, found_json};
+ghost use Rattle.lc_tool.specs.CheckedJson.{misfit_json, opening_fault, size_json, unlooked_json, unsized_json};
 
 use crate::WriteFault;
 use crate::looking::{check_store, taken_of};
@@ -17,9 +18,9 @@ use std::alloc::Global;
 use std::io::{self, Write};
 use std::rt::Files;
 
-/// Prints what `check_store` finds, as one JSON object on one line, and answers the same status. The object is whole whatever is found, and
-/// has the same keys in the same order: `size`, `misfit`, `logs`, `segments`, `refused` and `ok`. What failed, and why, is said on
-/// standard error. An `Err` is a fault of the writer.
+/// Prints what `check_store` finds, as one JSON object on one line, and answers the same status. The object is whole
+/// whatever is found, and has the same keys in the same order: `size`, `misfit`, `logs`, `segments`, `refused` and
+/// `ok`. What failed, and why, is said on standard error. An `Err` is a fault of the writer.
 pub fn check_store_json<R: Files + Eprint, W: Write>(
     alloc: Global,
     rt: &R,
@@ -29,7 +30,8 @@ pub fn check_store_json<R: Files + Eprint, W: Write>(
 ) -> Result<u8, WriteFault>
 where
     R::File: SharedFile,
-    ensures tells { IfOk result (λ status. Adds (TellsJson size.now) (W.contents writer.old) (W.contents writer.new) status) }
+    ensures tells { IfOk result (λ status.
+        Adds (TellsJson size.now) (W.contents writer.old) (W.contents writer.new) status) }
 {
     let folder = StoreFolder::new(alloc, rt, folder);
     let ended = look(alloc, &folder, size, writer);
@@ -48,7 +50,8 @@ pub(crate) fn check_asked<R: Files + Eprint, W: Write>(
 ) -> Result<u8, WriteFault>
 where
     R::File: SharedFile,
-    ensures tells { IfOk result (λ status. Adds (TellsCheck json size.now) (W.contents writer.old) (W.contents writer.new) status) }
+    ensures tells { IfOk result (λ status.
+        Adds (TellsCheck json size.now) (W.contents writer.old) (W.contents writer.new) status) }
 {
     if json {
         check_store_json(alloc, rt, folder, size, writer)
@@ -66,7 +69,8 @@ fn look<R: Files, W: Write>(
 ) -> Result<u8, WriteFault>
 where
     R::File: SharedFile,
-    ensures tells { IfOk result (λ status. Adds (TellsJson size.now) (W.contents writer.old) (W.contents writer.new) status) }
+    ensures tells { IfOk result (λ status.
+        Adds (TellsJson size.now) (W.contents writer.old) (W.contents writer.new) status) }
 {
     match folder.look() {
         Ok(look) => {
@@ -98,7 +102,8 @@ fn show<R: Files, W: Write>(
 ) -> Result<u8, WriteFault>
 where
     R::File: SharedFile,
-    ensures tells { IfOk result (λ status. Adds (TellsJson size.now) (W.contents writer.old) (W.contents writer.new) status) }
+    ensures tells { IfOk result (λ status.
+        Adds (TellsJson size.now) (W.contents writer.old) (W.contents writer.new) status) }
 {
     write_found(writer, found)?;
     match taken_of(StoreReport::Check(*size), found) {
@@ -116,7 +121,8 @@ fn show_files<R: Files, W: Write>(
 ) -> Result<u8, WriteFault>
 where
     R::File: SharedFile,
-    ensures tells { IfOk result (λ status. Adds (EndsJson geometry.now) (W.contents writer.old) (W.contents writer.new) status) }
+    ensures tells { IfOk result (λ status.
+        Adds (EndsJson geometry.now) (W.contents writer.old) (W.contents writer.new) status) }
 {
     match folder.areas_to_read(geometry) {
         Ok(mut areas) => check_areas_json(alloc, geometry, areas.as_mut_slice(), writer),

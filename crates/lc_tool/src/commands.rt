@@ -34,10 +34,13 @@ pub(crate) fn perform<D: Stoppable + Drop, W: Write>(
     command: &Command,
     writer: &mut W,
 ) -> Result<Verdict, Stop>
-    ensures done { IfOk result (λ verdict. Performs D.Area (FitsWorld D.Area) world.old command.now (W.contents writer.old) (W.contents writer.new) verdict world.new) }
+    ensures done { IfOk result (λ verdict.
+        Performs D.Area (FitsWorld D.Area) world.old command.now (W.contents writer.old)
+        (W.contents writer.new) verdict world.new) }
     ensures tells { IfOk result (λ verdict. (g : Geometry) (at : Option Life) → FitsLife D.Area g at world.old.phase
         → (after : Option Life) × FitsLife D.Area g after world.new.phase
-        × Adds (λ text end. TellsCommand g at command.now text end after) (W.contents writer.old) (W.contents writer.new) verdict) }
+        × Adds (λ text end. TellsCommand g at command.now text end after) (W.contents writer.old)
+        (W.contents writer.new) verdict) }
     ensures memory { result ≡ Err Stop.NoMemory → Keeps (W.contents writer.old) (W.contents writer.new) }
     ensures asks { result ≡ Err Stop.NoMemory → AsksFor D.Area world.old command.now }
     ensures still { result ≡ Err Stop.NoMemory → StillLives D.Area world.old.phase world.new.phase }
@@ -60,7 +63,8 @@ pub(crate) fn perform<D: Stoppable + Drop, W: Write>(
 
 /// Writes the line of a reply, and tells what became of its command.
 pub(crate) fn show<W: Write>(writer: &mut W, reply: &Reply) -> Result<Verdict, WriteFault>
-    ensures shown { IfOk result (λ verdict. (verdict ≡ verdict_of reply.now) × Appends (W.contents writer.old) (W.contents writer.new) (reply_text reply.now)) }
+    ensures shown { IfOk result (λ verdict. (verdict ≡ verdict_of reply.now)
+        × Appends (W.contents writer.old) (W.contents writer.new) (reply_text reply.now)) }
 {
     write_reply(writer, reply)?;
     Ok(Verdict::of(reply))
@@ -68,7 +72,8 @@ pub(crate) fn show<W: Write>(writer: &mut W, reply: &Reply) -> Result<Verdict, W
 
 // Writes the line of a reservation that was closed, or of the reply in its place.
 fn show_end<W: Write>(writer: &mut W, reply: &Reply) -> Result<Verdict, WriteFault>
-    ensures shown { IfOk result (λ verdict. (verdict ≡ verdict_of reply.now) × Appends (W.contents writer.old) (W.contents writer.new) (end_text reply.now)) }
+    ensures shown { IfOk result (λ verdict. (verdict ≡ verdict_of reply.now)
+        × Appends (W.contents writer.old) (W.contents writer.new) (end_text reply.now)) }
 {
     match reply {
         Reply::Reserved { place, words } => {
@@ -86,10 +91,13 @@ fn show_log<D: Stoppable + Drop, W: Write>(
     node: u16,
     writer: &mut W,
 ) -> Result<Verdict, Stop>
-    ensures done { IfOk result (λ verdict. Performs D.Area (FitsWorld D.Area) world.old (Log node) (W.contents writer.old) (W.contents writer.new) verdict world.new) }
+    ensures done { IfOk result (λ verdict.
+        Performs D.Area (FitsWorld D.Area) world.old (Log node) (W.contents writer.old)
+        (W.contents writer.new) verdict world.new) }
     ensures tells { IfOk result (λ verdict. (g : Geometry) (at : Option Life) → FitsLife D.Area g at world.old.phase
         → (after : Option Life) × FitsLife D.Area g after world.new.phase
-        × Adds (λ text end. TellsCommand g at (Log node) text end after) (W.contents writer.old) (W.contents writer.new) verdict) }
+        × Adds (λ text end. TellsCommand g at (Log node) text end after) (W.contents writer.old)
+        (W.contents writer.new) verdict) }
     ensures memory { result ≡ Err Stop.NoMemory → Keeps (W.contents writer.old) (W.contents writer.new) }
     ensures asks { result ≡ Err Stop.NoMemory → AsksFor D.Area world.old (Log node) }
     ensures still { result ≡ Err Stop.NoMemory → StillLives D.Area world.old.phase world.new.phase }
@@ -110,10 +118,13 @@ fn show_records<D: Stoppable + Drop, W: Write>(
     node: u16,
     writer: &mut W,
 ) -> Result<Verdict, Stop>
-    ensures done { IfOk result (λ verdict. Performs D.Area (FitsWorld D.Area) world.old (Inspect node) (W.contents writer.old) (W.contents writer.new) verdict world.new) }
+    ensures done { IfOk result (λ verdict.
+        Performs D.Area (FitsWorld D.Area) world.old (Inspect node) (W.contents writer.old)
+        (W.contents writer.new) verdict world.new) }
     ensures tells { IfOk result (λ verdict. (g : Geometry) (at : Option Life) → FitsLife D.Area g at world.old.phase
         → (after : Option Life) × FitsLife D.Area g after world.new.phase
-        × Adds (λ text end. TellsCommand g at (Inspect node) text end after) (W.contents writer.old) (W.contents writer.new) verdict) }
+        × Adds (λ text end. TellsCommand g at (Inspect node) text end after) (W.contents writer.old)
+        (W.contents writer.new) verdict) }
     ensures memory { result ≡ Err Stop.NoMemory → Keeps (W.contents writer.old) (W.contents writer.new) }
     ensures asks { result ≡ Err Stop.NoMemory → AsksFor D.Area world.old (Inspect node) }
     ensures still { result ≡ Err Stop.NoMemory → StillLives D.Area world.old.phase world.new.phase }
@@ -132,9 +143,11 @@ fn show_records<D: Stoppable + Drop, W: Write>(
 
 // Writes why a log is not shown.
 fn show_fault<W: Write>(writer: &mut W, fault: ShowFault) -> Result<Verdict, Stop>
-    ensures shown { IfOk result (λ verdict. (refusal : Refusal) × (refusal_to fault ≡ Some refusal) × (verdict ≡ verdict_on refusal)
+    ensures shown { IfOk result (λ verdict. (refusal : Refusal) × (refusal_to fault ≡ Some refusal)
+        × (verdict ≡ verdict_on refusal)
         × Appends (W.contents writer.old) (W.contents writer.new) (refusal_text refusal)) }
-    ensures memory { result ≡ Err Stop.NoMemory → (fault ≡ ShowFault.NoMemory) × Keeps (W.contents writer.old) (W.contents writer.new) }
+    ensures memory { result ≡ Err Stop.NoMemory
+        → (fault ≡ ShowFault.NoMemory) × Keeps (W.contents writer.old) (W.contents writer.new) }
 {
     match fault {
         ShowFault::Unknown => Ok(show(writer, &Reply::Refused(Refusal::Unknown))?),
@@ -151,10 +164,13 @@ fn show_page<D: Stoppable + Drop, W: Write>(
     page: u32,
     writer: &mut W,
 ) -> Result<Verdict, WriteFault>
-    ensures done { IfOk result (λ verdict. Performs D.Area (FitsWorld D.Area) world.old (Show node segment page) (W.contents writer.old) (W.contents writer.new) verdict world.new) }
+    ensures done { IfOk result (λ verdict.
+        Performs D.Area (FitsWorld D.Area) world.old (Show node segment page) (W.contents writer.old)
+        (W.contents writer.new) verdict world.new) }
     ensures tells { IfOk result (λ verdict. (g : Geometry) (at : Option Life) → FitsLife D.Area g at world.old.phase
         → (after : Option Life) × FitsLife D.Area g after world.new.phase
-        × Adds (λ text end. TellsCommand g at (Show node segment page) text end after) (W.contents writer.old) (W.contents writer.new) verdict) }
+        × Adds (λ text end. TellsCommand g at (Show node segment page) text end after) (W.contents writer.old)
+        (W.contents writer.new) verdict) }
 {
     match world.page(node, segment, page) {
         Ok(bytes) => {

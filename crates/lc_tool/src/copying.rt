@@ -28,15 +28,16 @@ pub(crate) enum NoCopySize {
     NoStore,
 }
 
-/// Makes a copy of the store in a folder, in another folder: each of its files has the bytes of the file of its name and then zeros, and is
-/// stable. A number of the size that is not wanted is that of the store; the copy may have more segments, and more pages in each. The
-/// store is at rest: its folder is locked beside others that look at it, and nothing of it changes.
+/// Makes a copy of the store in a folder, in another folder: each of its files has the bytes of the file of its name
+/// and then zeros, and is stable. A number of the size that is not wanted is that of the store; the copy may have more
+/// segments, and more pages in each. The store is at rest: its folder is locked beside others that look at it, and
+/// nothing of it changes.
 ///
-/// It prints nothing, and the status is 0. Where the files of the store do not fit together the line says so, and the status is 1; where the
-/// copy would have no room for an area, or a file is not of the store's size, it prints `refused BadGeometry` and the area; where
-/// a name of a store is taken in the other folder `refused Exists`. A folder that fails, that another process has open, or that
-/// has the mark of a fault gives `device fault` and 3, and what was made is taken away again. It says on standard error why. An `Err`
-/// is a fault of the writer.
+/// It prints nothing, and the status is 0. Where the files of the store do not fit together the line says so, and the
+/// status is 1. So it is where the copy would have no room for an area, or a file is not of the store's size: it prints
+/// `refused BadGeometry` and the area. Where a name of a store is taken in the other folder it prints `refused Exists`.
+/// A folder that fails, that another process has open, or that has the mark of a fault gives `device fault` and 3, and
+/// what was made is taken away again. It says on standard error why. An `Err` is a fault of the writer.
 pub fn copy_store<R: Files + Eprint, W: Write>(
     alloc: Global,
     rt: &R,

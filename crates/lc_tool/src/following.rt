@@ -23,7 +23,8 @@ use std::io::{Read, Write};
 // Of a line more there is no number.
 const LAST_NUMBER: u64 = u64::MAX;
 
-/// Runs each line on a store that is recovered before the next is read. A line has the bytes of the longest script at most.
+/// Runs each line on a store that is recovered before the next is read. A line has the bytes of the longest script at
+/// most.
 pub(crate) fn follow_script<D: Stoppable + Drop, L: LineTeller, R: Read, W: Write>(
     alloc: Global,
     numbered: bool,
@@ -33,9 +34,12 @@ pub(crate) fn follow_script<D: Stoppable + Drop, L: LineTeller, R: Read, W: Writ
     writer: &mut W,
 ) -> Result<u8, ScriptFault>
     ensures runs { IfOk result (λ status. IfSome (R.remaining reader.old) (λ script.
-        FollowsLines D.Area (front_of numbered) world.old script (W.contents writer.old) (W.contents writer.new) status)) }
-    ensures tells { IfOk result (λ status. IfSome (R.remaining reader.old) (λ script. (g : Geometry) (at : Option Life) → FitsLife D.Area g at world.old.phase
-        → Adds (TellsFollowed (front_of numbered) g at 1 false (lines_followed script)) (W.contents writer.old) (W.contents writer.new) status)) }
+        FollowsLines D.Area (front_of numbered) world.old script (W.contents writer.old)
+        (W.contents writer.new) status)) }
+    ensures tells { IfOk result (λ status. IfSome (R.remaining reader.old) (λ script. (g : Geometry) (at : Option Life)
+        → FitsLife D.Area g at world.old.phase
+        → Adds (TellsFollowed (front_of numbered) g at 1 false (lines_followed script)) (W.contents writer.old)
+        (W.contents writer.new) status)) }
 {
     match ScriptLines::new(alloc, reader) {
         Ok(mut lines) => follow_lines(alloc, numbered, teller, world, &mut lines, writer),
@@ -53,9 +57,12 @@ fn follow_lines<D: Stoppable + Drop, L: LineTeller, R: Read, W: Write>(
     writer: &mut W,
 ) -> Result<u8, ScriptFault>
     ensures runs { IfOk result (λ status. IfSome (lines_left R.remaining lines.old) (λ script.
-        FollowsLines D.Area (front_of numbered) world.old script (W.contents writer.old) (W.contents writer.new) status)) }
-    ensures tells { IfOk result (λ status. IfSome (lines_left R.remaining lines.old) (λ script. (g : Geometry) (at : Option Life) → FitsLife D.Area g at world.old.phase
-        → Adds (TellsFollowed (front_of numbered) g at 1 false (lines_followed script)) (W.contents writer.old) (W.contents writer.new) status)) }
+        FollowsLines D.Area (front_of numbered) world.old script (W.contents writer.old)
+        (W.contents writer.new) status)) }
+    ensures tells { IfOk result (λ status. IfSome (lines_left R.remaining lines.old) (λ script. (g : Geometry)
+        (at : Option Life) → FitsLife D.Area g at world.old.phase
+        → Adds (TellsFollowed (front_of numbered) g at 1 false (lines_followed script)) (W.contents writer.old)
+        (W.contents writer.new) status)) }
 {
     let mut number = 1;
     let mut refused = false;

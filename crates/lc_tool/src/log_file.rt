@@ -30,10 +30,10 @@ enum LogFile {
     OtherLen,
 }
 
-/// Writes a line for each record of the log in a file, the last first where `reverse` is set. The status is 0 where that
-/// is done, 1 where the file has not the length of a log or there was no memory, 3 where it could not be read, and why is said
-/// on standard error. The file is opened for reading alone, and takes memory only where it is as long as a log. An `Err` is a
-/// fault of the writer.
+/// Writes a line for each record of the log in a file, the last first where `reverse` is set. The status is 0 where
+/// that is done, 1 where the file has not the length of a log or there was no memory, 3 where it could not be read, and
+/// why is said on standard error. The file is opened for reading alone, and takes memory only where it is as long as a
+/// log. An `Err` is a fault of the writer.
 pub fn inspect_file<R: Files + Eprint, W: Write>(
     alloc: Global,
     rt: &R,
@@ -43,7 +43,8 @@ pub fn inspect_file<R: Files + Eprint, W: Write>(
 ) -> Result<u8, WriteFault>
 where
     R::File: HeldFile,
-    ensures tells { IfOk result (λ status. TellsInspection reverse (W.contents writer.old) (W.contents writer.new) status) }
+    ensures tells { IfOk result (λ status.
+        TellsInspection reverse (W.contents writer.old) (W.contents writer.new) status) }
 {
     match read_log(alloc, rt, path) {
         Ok(LogFile::Bytes(bytes)) => show(alloc, &bytes, reverse, writer),

@@ -18,9 +18,10 @@ use std::io::{self, Write};
 use std::rt::Files;
 
 /// Prints the size that the files of a folder tell, or what of them does not fit together, and then what a recovery of
-/// the store would say, as `check_areas` over the areas of its files. The folder's lock is taken beside others that take it
-/// so; no file is made, written or synced. Where the files do not fit together and no size is given the status is 1. A store
-/// that cannot be looked at gives `device fault` and the status 3. What failed, and why, is said on standard error.
+/// the store would say, as `check_areas` over the areas of its files. The folder's lock is taken beside others that
+/// take it so; no file is made, written or synced. Where the files do not fit together and no size is given the status
+/// is 1. A store that cannot be looked at gives `device fault` and the status 3. What failed, and why, is said on
+/// standard error.
 pub fn check_store<R: Files + Eprint, W: Write>(
     alloc: Global,
     rt: &R,
@@ -30,7 +31,8 @@ pub fn check_store<R: Files + Eprint, W: Write>(
 ) -> Result<u8, WriteFault>
 where
     R::File: SharedFile,
-    ensures tells { IfOk result (λ status. Adds (TellsChecked size.now) (W.contents writer.old) (W.contents writer.new) status) }
+    ensures tells { IfOk result (λ status.
+        Adds (TellsChecked size.now) (W.contents writer.old) (W.contents writer.new) status) }
 {
     look_at(alloc, rt, folder, StoreReport::Check(*size), writer)
 }
@@ -49,7 +51,8 @@ pub fn dump_page<R: Files + Eprint, W: Write>(
 ) -> Result<u8, WriteFault>
 where
     R::File: SharedFile,
-    ensures tells { IfOk result (λ status. Adds (TellsDumped segment page) (W.contents writer.old) (W.contents writer.new) status) }
+    ensures tells { IfOk result (λ status.
+        Adds (TellsDumped segment page) (W.contents writer.old) (W.contents writer.new) status) }
 {
     look_at(
         alloc,
@@ -60,9 +63,10 @@ where
     )
 }
 
-/// Prints the picture of the store in a folder, as `draw_areas` over the areas of its files, which tell its size. The folder's
-/// lock is taken beside others that take it so; no file is made, written or synced. Where the files do not fit together the status
-/// is 1. A store that cannot be looked at gives `device fault` and the status 3. What failed, and why, is said on standard error.
+/// Prints the picture of the store in a folder, as `draw_areas` over the areas of its files, which tell its size. The
+/// folder's lock is taken beside others that take it so; no file is made, written or synced. Where the files do not fit
+/// together the status is 1. A store that cannot be looked at gives `device fault` and the status 3. What failed, and
+/// why, is said on standard error.
 pub fn draw_store<R: Files + Eprint, W: Write>(
     alloc: Global,
     rt: &R,
@@ -86,7 +90,8 @@ fn look_at<R: Files + Eprint, W: Write>(
 ) -> Result<u8, WriteFault>
 where
     R::File: SharedFile,
-    ensures tells { IfOk result (λ status. Adds (TellsView view) (W.contents writer.old) (W.contents writer.new) status) }
+    ensures tells { IfOk result (λ status.
+        Adds (TellsView view) (W.contents writer.old) (W.contents writer.new) status) }
 {
     let folder = StoreFolder::new(alloc, rt, folder);
     let ended = look_in(alloc, &folder, view, writer);
@@ -103,7 +108,8 @@ fn look_in<R: Files, W: Write>(
 ) -> Result<u8, WriteFault>
 where
     R::File: SharedFile,
-    ensures tells { IfOk result (λ status. Adds (TellsView view) (W.contents writer.old) (W.contents writer.new) status) }
+    ensures tells { IfOk result (λ status.
+        Adds (TellsView view) (W.contents writer.old) (W.contents writer.new) status) }
 {
     match folder.look() {
         Ok(look) => {
@@ -127,7 +133,8 @@ fn show_store<R: Files, W: Write>(
 ) -> Result<u8, WriteFault>
 where
     R::File: SharedFile,
-    ensures tells { IfOk result (λ status. Adds (TellsView view) (W.contents writer.old) (W.contents writer.new) status) }
+    ensures tells { IfOk result (λ status.
+        Adds (TellsView view) (W.contents writer.old) (W.contents writer.new) status) }
 {
     write_front(writer, view, &found)?;
     match taken_of(view, &found) {
@@ -198,7 +205,8 @@ fn show_files<R: Files, W: Write>(
 ) -> Result<u8, WriteFault>
 where
     R::File: SharedFile,
-    ensures tells { IfOk result (λ status. Adds (ShowsView view geometry.now) (W.contents writer.old) (W.contents writer.new) status) }
+    ensures tells { IfOk result (λ status.
+        Adds (ShowsView view geometry.now) (W.contents writer.old) (W.contents writer.new) status) }
 {
     match folder.areas_to_read(geometry) {
         Ok(mut areas) => show_areas(alloc, view, geometry, areas.as_mut_slice(), writer),
@@ -214,7 +222,8 @@ fn show_areas<D: Area, W: Write>(
     areas: &mut [D],
     writer: &mut W,
 ) -> Result<u8, WriteFault>
-    ensures tells { IfOk result (λ status. Adds (ShowsView view geometry.now) (W.contents writer.old) (W.contents writer.new) status) }
+    ensures tells { IfOk result (λ status.
+        Adds (ShowsView view geometry.now) (W.contents writer.old) (W.contents writer.new) status) }
 {
     match view {
         StoreReport::Check(_) => check_areas(alloc, geometry, areas, writer),

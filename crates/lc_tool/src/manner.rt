@@ -1,6 +1,6 @@
 //! How a script is run.
 
-/// How a script is run. This project's own.
+/// How a script is run.
 #[derive(Clone, Copy, PartialEq, Eq)]
 pub struct Manner {
     /// Each line is run, and what it prints is written, before the next is read.

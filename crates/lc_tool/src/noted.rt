@@ -2,7 +2,7 @@
 use std::io::{self, ErrorKind, Read, Write};
 
 /// A reader or a writer with the first error that it met: a fault that is answered does not say why. A call that was
-/// interrupted may be made again, so its error gives way to what the next call meets, be it none. This project's own.
+/// interrupted may be made again, so its error gives way to what the next call meets, be it none.
 #[derive(Drop)]
 pub struct Noted<T> {
     inner: T,

@@ -17,8 +17,8 @@ use std::env;
 use std::io::{self, BufWriter, ErrorKind, Read, Write};
 use std::rt::{Env, Files};
 
-/// Reads the command line, does what it asks for over standard input and output, and answers the status to end with. What
-/// failed, and why, is said on standard error, of which the caller says what it is.
+/// Reads the command line, does what it asks for over standard input and output, and answers the status to end with.
+/// What failed, and why, is said on standard error, of which the caller says what it is.
 pub fn run_program<R: AllocGlobal + Env + Files + Input + Print + Eprint>(
     rt: &R,
     errors: ErrorOutput,
@@ -80,10 +80,14 @@ where
 // The status to end with: the one that was answered; 1 after the line that tells of want of memory, where it could be
 // written; and else 3.
 fn status_of<W: Write>(answered: Result<u8, ToolFault>, output: &mut W) -> u8
-    ensures answered { (status : ℕ) → answered ≡ Ok status → (result ≡ status) × Keeps (W.contents output.old) (W.contents output.new) }
-    ensures memory { answered ≡ Err ToolFault.NoMemory → (result ≡ 3) ⊎ Adds NoMemory (W.contents output.old) (W.contents output.new) result }
-    ensures read { answered ≡ Err ToolFault.Read → (result ≡ 3) × Keeps (W.contents output.old) (W.contents output.new) }
-    ensures written { answered ≡ Err ToolFault.Write → (result ≡ 3) × Keeps (W.contents output.old) (W.contents output.new) }
+    ensures answered { (status : ℕ) → answered ≡ Ok status
+        → (result ≡ status) × Keeps (W.contents output.old) (W.contents output.new) }
+    ensures memory { answered ≡ Err ToolFault.NoMemory
+        → (result ≡ 3) ⊎ Adds NoMemory (W.contents output.old) (W.contents output.new) result }
+    ensures read { answered ≡ Err ToolFault.Read
+        → (result ≡ 3) × Keeps (W.contents output.old) (W.contents output.new) }
+    ensures written { answered ≡ Err ToolFault.Write
+        → (result ≡ 3) × Keeps (W.contents output.old) (W.contents output.new) }
 {
     match answered {
         Ok(status) => status,

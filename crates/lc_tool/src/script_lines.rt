@@ -26,12 +26,15 @@ impl<'a, R: Read> ScriptLines<'a, R> {
         }
     }
 
-    /// The next line with its end, or nothing after the last: no more is read than there is where the line ends. Of a line that is
-    /// longer than the longest script more bytes than that are answered, and what is read then is lost.
+    /// The next line with its end, or nothing after the last: no more is read than there is where the line ends. Of a
+    /// line that is longer than the longest script more bytes than that are answered, and what is read then is lost.
     pub(crate) fn next(&mut self, alloc: Global) -> Result<Vec<u8>, ToolFault>
-        ensures line { IfOk result (λ line. length line.items ≤ LONGEST → IfSome (lines_left R.remaining self.old) (λ script.
-            (line.items ≡ take_through 10 script) × (lines_left R.remaining self.new ≡ Some (drop_through 10 script)))) }
-        ensures long { IfOk result (λ line. LONGEST < length line.items → IfSome (lines_left R.remaining self.old) (λ script. LONGEST < length (take_through 10 script))) }
+        ensures line { IfOk result (λ line. length line.items ≤ LONGEST
+            → IfSome (lines_left R.remaining self.old) (λ script.
+            (line.items ≡ take_through 10 script)
+            × (lines_left R.remaining self.new ≡ Some (drop_through 10 script)))) }
+        ensures long { IfOk result (λ line. LONGEST < length line.items
+            → IfSome (lines_left R.remaining self.old) (λ script. LONGEST < length (take_through 10 script))) }
         ensures writes { result ≢ Err ToolFault.Write }
     {
         let mut line = Vec::new(alloc);

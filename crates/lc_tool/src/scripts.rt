@@ -1,10 +1,12 @@
 //! Runs a script.
-ghost use Rattle.std.specs.Prelude.{◌≡◌, ◌≢◌, ◌+◌, ℕ, List, false, IfOk, IfSome, OnOk, Option, Some, None, take, if◌then◌else◌};
+ghost use Rattle.std.specs.Prelude.{◌≡◌, ◌≢◌, ◌+◌, ℕ, List, false, IfOk, IfSome, OnOk, Option, Some, None, take};
+ghost use Rattle.std.specs.Prelude.{if◌then◌else◌};
 ghost use Rattle.std.specs.Io.KnownBytes.{Appends};
 ghost use Rattle.lc_record.specs.declared.geometry.Geometry.{Geometry as Sizes};
 ghost use Rattle.lc_model.specs.declared.refusal.Refusal.TheVariants.{BadGeometry};
 ghost use Rattle.lc_core.specs.Lives.{FitsLife, Life};
-ghost use Rattle.lc_tool.specs.Outcome.{LeavesFronted, LeavesLine, OpensStore, RefusesFirst, RunsAll, RunsLines, RunsRecovered};
+ghost use Rattle.lc_tool.specs.Outcome.{LeavesFronted, LeavesLine, OpensStore, RefusesFirst, RunsAll, RunsLines};
+ghost use Rattle.lc_tool.specs.Outcome.{RunsRecovered};
 ghost use Rattle.lc_tool.specs.Script.{front_of, given_as};
 ghost use Rattle.lc_text.specs.Line.{line_of};
 ghost use Rattle.lc_text.specs.Lines.{script_lines};
@@ -12,7 +14,8 @@ ghost use Rattle.lc_look.specs.Printed.{Adds};
 ghost use Rattle.lc_look.specs.Refused.{RefusesLengths, RefusesMerge};
 ghost use Rattle.lc_tool.specs.Store.{RunsStore};
 ghost use Rattle.lc_text.specs.declared.command.Line.TheVariants.{Command as Commanded};
-ghost use Rattle.lc_tool.specs.Tells.{TellsAll, TellsFronted, TellsLine, TellsLines, TellsOpening, TellsRecovered, TellsScript};
+ghost use Rattle.lc_tool.specs.Tells.{TellsAll, TellsFronted, TellsLine, TellsLines, TellsOpening, TellsRecovered};
+ghost use Rattle.lc_tool.specs.Tells.{TellsScript};
 ghost use Rattle.lc_text.specs.Text.{no_memory_text, refusal_text, reply_text, too_long_text};
 
 use crate::commands::perform;
@@ -40,10 +43,10 @@ use std::io::{Read, Write};
 // The bytes of the longest script.
 pub(crate) const LONGEST: usize = 1_048_576;
 
-/// Runs a script on a store of these areas, once it is recovered, and answers the status: 0 where all was done, 1 where
-/// something was refused or there was no memory, 2 where a line or the script was not understood, 3 where a device
-/// failed. The manner says whether its lines are read one by one, and whether their numbers are printed. An `Err` is a fault of
-/// the reader or of the writer, and says nothing of what was written.
+/// Runs a script on a store of these areas, once it is recovered, and answers the status. It is 0 where all was done,
+/// and 1 where something was refused or there was no memory. It is 2 where a line or the script was not understood, and
+/// 3 where a device failed. The manner says whether its lines are read one by one, and whether their numbers are
+/// printed. An `Err` is a fault of the reader or of the writer, and says nothing of what was written.
 pub fn run_script<D: Stoppable + Drop, R: Read, W: Write>(
     alloc: Global,
     geometry: Geometry,
@@ -54,14 +57,18 @@ pub fn run_script<D: Stoppable + Drop, R: Read, W: Write>(
 ) -> Result<u8, ToolFault>
     // Areas that merge to one result, whatever a stop leaves of them.
     ensures runs { IfOk result (λ status. IfSome (R.remaining reader.old) (λ script.
-        RunsStore D.Area geometry areas.items (given_as manner script) (W.contents writer.old) (W.contents writer.new) status)) }
+        RunsStore D.Area geometry areas.items (given_as manner script) (W.contents writer.old)
+        (W.contents writer.new) status)) }
 
     // Areas whose merge is refused, and areas that are not those of the geometry.
-    ensures refused { IfOk result (λ status. RefusesMerge D.Area geometry areas.items (W.contents writer.old) (W.contents writer.new) status) }
-    ensures wrong { IfOk result (λ status. RefusesLengths D.Area geometry areas.items (W.contents writer.old) (W.contents writer.new) status) }
+    ensures refused { IfOk result (λ status.
+        RefusesMerge D.Area geometry areas.items (W.contents writer.old) (W.contents writer.new) status) }
+    ensures wrong { IfOk result (λ status.
+        RefusesLengths D.Area geometry areas.items (W.contents writer.old) (W.contents writer.new) status) }
 
     // Any areas.
-    ensures tells { IfOk result (λ status. IfSome (R.remaining reader.old) (λ script. Adds (TellsScript geometry (given_as manner script)) (W.contents writer.old) (W.contents writer.new) status)) }
+    ensures tells { IfOk result (λ status. IfSome (R.remaining reader.old) (λ script.
+        Adds (TellsScript geometry (given_as manner script)) (W.contents writer.old) (W.contents writer.new) status)) }
     ensures memory { result ≢ Err ToolFault.NoMemory }
 {
     Ok(run_told(alloc, geometry, manner, areas, &Silent, reader, writer)?)
@@ -78,10 +85,14 @@ pub(crate) fn run_told<D: Stoppable + Drop, T: Teller + LineTeller, R: Read, W: 
     writer: &mut W,
 ) -> Result<u8, ScriptFault>
     ensures runs { IfOk result (λ status. IfSome (R.remaining reader.old) (λ script.
-        RunsStore D.Area geometry areas.items (given_as manner script) (W.contents writer.old) (W.contents writer.new) status)) }
-    ensures refused { IfOk result (λ status. RefusesMerge D.Area geometry areas.items (W.contents writer.old) (W.contents writer.new) status) }
-    ensures wrong { IfOk result (λ status. RefusesLengths D.Area geometry areas.items (W.contents writer.old) (W.contents writer.new) status) }
-    ensures tells { IfOk result (λ status. IfSome (R.remaining reader.old) (λ script. Adds (TellsScript geometry (given_as manner script)) (W.contents writer.old) (W.contents writer.new) status)) }
+        RunsStore D.Area geometry areas.items (given_as manner script) (W.contents writer.old)
+        (W.contents writer.new) status)) }
+    ensures refused { IfOk result (λ status.
+        RefusesMerge D.Area geometry areas.items (W.contents writer.old) (W.contents writer.new) status) }
+    ensures wrong { IfOk result (λ status.
+        RefusesLengths D.Area geometry areas.items (W.contents writer.old) (W.contents writer.new) status) }
+    ensures tells { IfOk result (λ status. IfSome (R.remaining reader.old) (λ script.
+        Adds (TellsScript geometry (given_as manner script)) (W.contents writer.old) (W.contents writer.new) status)) }
 {
     let mut world = match World::new(geometry, areas) {
         Ok(world) => world,
@@ -94,7 +105,8 @@ pub(crate) fn run_told<D: Stoppable + Drop, T: Teller + LineTeller, R: Read, W: 
     run_recovered(alloc, manner, teller, &mut world, reader, writer)
 }
 
-// Reads the script and runs it on a store that is recovered. What it leaves that is lost is told, unless a device has failed.
+// Reads the script and runs it on a store that is recovered. What it leaves that is lost is told, unless a device has
+// failed.
 fn run_recovered<D: Stoppable + Drop, T: Teller + LineTeller, R: Read, W: Write>(
     alloc: Global,
     manner: Manner,
@@ -104,8 +116,10 @@ fn run_recovered<D: Stoppable + Drop, T: Teller + LineTeller, R: Read, W: Write>
     writer: &mut W,
 ) -> Result<u8, ScriptFault>
     ensures runs { IfOk result (λ status. IfSome (R.remaining reader.old) (λ script.
-        RunsRecovered D.Area world.old (given_as manner script) (W.contents writer.old) (W.contents writer.new) status)) }
-    ensures tells { IfOk result (λ status. IfSome (R.remaining reader.old) (λ script. (g : Sizes) (at : Option Life) → FitsLife D.Area g at world.old.phase
+        RunsRecovered D.Area world.old (given_as manner script) (W.contents writer.old)
+        (W.contents writer.new) status)) }
+    ensures tells { IfOk result (λ status. IfSome (R.remaining reader.old) (λ script. (g : Sizes) (at : Option Life)
+        → FitsLife D.Area g at world.old.phase
         → Adds (TellsRecovered g at (given_as manner script)) (W.contents writer.old) (W.contents writer.new) status)) }
 {
     let ended = run_read(alloc, manner, teller, world, reader, writer);
@@ -126,8 +140,10 @@ fn run_read<D: Stoppable + Drop, L: LineTeller, R: Read, W: Write>(
     writer: &mut W,
 ) -> Result<u8, ScriptFault>
     ensures runs { IfOk result (λ status. IfSome (R.remaining reader.old) (λ script.
-        RunsRecovered D.Area world.old (given_as manner script) (W.contents writer.old) (W.contents writer.new) status)) }
-    ensures tells { IfOk result (λ status. IfSome (R.remaining reader.old) (λ script. (g : Sizes) (at : Option Life) → FitsLife D.Area g at world.old.phase
+        RunsRecovered D.Area world.old (given_as manner script) (W.contents writer.old)
+        (W.contents writer.new) status)) }
+    ensures tells { IfOk result (λ status. IfSome (R.remaining reader.old) (λ script. (g : Sizes) (at : Option Life)
+        → FitsLife D.Area g at world.old.phase
         → Adds (TellsRecovered g at (given_as manner script)) (W.contents writer.old) (W.contents writer.new) status)) }
 {
     if manner.follow {
@@ -148,7 +164,8 @@ fn run_whole<D: Stoppable + Drop, L: LineTeller, R: Read, W: Write>(
 ) -> Result<u8, ScriptFault>
     ensures runs { IfOk result (λ status. IfSome (R.remaining reader.old) (λ script.
         RunsAll D.Area (front_of numbered) world.old script (W.contents writer.old) (W.contents writer.new) status)) }
-    ensures tells { IfOk result (λ status. IfSome (R.remaining reader.old) (λ script. (g : Sizes) (at : Option Life) → FitsLife D.Area g at world.old.phase
+    ensures tells { IfOk result (λ status. IfSome (R.remaining reader.old) (λ script. (g : Sizes) (at : Option Life)
+        → FitsLife D.Area g at world.old.phase
         → Adds (TellsAll (front_of numbered) g at script) (W.contents writer.old) (W.contents writer.new) status)) }
 {
     let script = match read_script(alloc, reader) {
@@ -169,10 +186,13 @@ fn open<D: Stoppable + Drop, T: Teller, W: Write>(
     teller: &T,
     writer: &mut W,
 ) -> Result<Option<u8>, WriteFault>
-    ensures opens { IfOk result (λ status. OpensStore D.Area world.old (W.contents writer.old) (W.contents writer.new) status world.new) }
-    ensures refused { IfOk result (λ status. RefusesFirst D.Area world.old (W.contents writer.old) (W.contents writer.new) status) }
+    ensures opens { IfOk result (λ status.
+        OpensStore D.Area world.old (W.contents writer.old) (W.contents writer.new) status world.new) }
+    ensures refused { IfOk result (λ status.
+        RefusesFirst D.Area world.old (W.contents writer.old) (W.contents writer.new) status) }
     ensures tells { IfOk result (λ status. (g : Sizes) → FitsLife D.Area g None world.old.phase
-        → (after : Option Life) × FitsLife D.Area g after world.new.phase × TellsOpening g (W.contents writer.old) (W.contents writer.new) status after) }
+        → (after : Option Life) × FitsLife D.Area g after world.new.phase
+        × TellsOpening g (W.contents writer.old) (W.contents writer.new) status after) }
 {
     let recovered = recover(world, alloc, teller);
     teller.finished();
@@ -188,7 +208,8 @@ fn open<D: Stoppable + Drop, T: Teller, W: Write>(
 
 // Writes that an area is not one of the geometry, and gives the status.
 pub(crate) fn bad_geometry<W: Write>(writer: &mut W, area: u32) -> Result<u8, WriteFault>
-    ensures shown { IfOk result (λ status. (status ≡ 1) × Appends (W.contents writer.old) (W.contents writer.new) (refusal_text (BadGeometry area))) }
+    ensures shown { IfOk result (λ status. (status ≡ 1)
+        × Appends (W.contents writer.old) (W.contents writer.new) (refusal_text (BadGeometry area))) }
 {
     printed(
         writer,
@@ -199,7 +220,8 @@ pub(crate) fn bad_geometry<W: Write>(writer: &mut W, area: u32) -> Result<u8, Wr
 
 // Writes the line of a reply, after which nothing more is done, and gives the status.
 fn printed<W: Write>(writer: &mut W, reply: &Reply, status: u8) -> Result<u8, WriteFault>
-    ensures shown { IfOk result (λ given. (given ≡ status) × Appends (W.contents writer.old) (W.contents writer.new) (reply_text reply.now)) }
+    ensures shown { IfOk result (λ given. (given ≡ status)
+        × Appends (W.contents writer.old) (W.contents writer.new) (reply_text reply.now)) }
 {
     write_reply(writer, reply)?;
     Ok(status)
@@ -207,7 +229,8 @@ fn printed<W: Write>(writer: &mut W, reply: &Reply, status: u8) -> Result<u8, Wr
 
 // The bytes of the script, and one more where there are too many.
 fn read_script<R: Read>(alloc: Global, reader: &mut R) -> Result<Vec<u8>, ToolFault>
-    ensures script { IfOk result (λ script. IfSome (R.remaining reader.old) (λ all. script.items ≡ take (LONGEST + 1) all)) }
+    ensures script { IfOk result (λ script. IfSome (R.remaining reader.old) (λ all. script.items
+        ≡ take (LONGEST + 1) all)) }
     ensures writes { result ≢ Err ToolFault.Write }
 {
     let mut script = Vec::new(alloc);
@@ -228,9 +251,12 @@ fn run_lines<D: Stoppable + Drop, L: LineTeller, W: Write>(
     script: &[u8],
     writer: &mut W,
 ) -> Result<u8, WriteFault>
-    ensures runs { IfOk result (λ status. RunsLines D.Area (front_of numbered) world.old script.now (W.contents writer.old) (W.contents writer.new) status) }
+    ensures runs { IfOk result (λ status.
+        RunsLines D.Area (front_of numbered) world.old script.now (W.contents writer.old)
+        (W.contents writer.new) status) }
     ensures tells { IfOk result (λ status. (g : Sizes) (at : Option Life) → FitsLife D.Area g at world.old.phase
-        → Adds (TellsLines (front_of numbered) g at 1 false (script_lines script.now)) (W.contents writer.old) (W.contents writer.new) status) }
+        → Adds (TellsLines (front_of numbered) g at 1 false (script_lines script.now)) (W.contents writer.old)
+        (W.contents writer.new) status) }
 {
     let mut rest = script;
     let mut number = 1;
@@ -254,8 +280,8 @@ pub(crate) fn status_of(refused: bool) -> u8
     if refused { REFUSED } else { DONE }
 }
 
-/// One line, of which all that is printed has gone out before the next is begun; its number stands in front of that where
-/// numbers are asked for. Of a line that is not understood the teller is told.
+/// One line, of which all that is printed has gone out before the next is begun; its number stands in front of that
+/// where numbers are asked for. Of a line that is not understood the teller is told.
 pub(crate) fn run_line<D: Stoppable + Drop, L: LineTeller, W: Write>(
     alloc: Global,
     numbered: bool,
@@ -265,10 +291,13 @@ pub(crate) fn run_line<D: Stoppable + Drop, L: LineTeller, W: Write>(
     number: u64,
     writer: &mut W,
 ) -> Result<Outcome, WriteFault>
-    ensures leaves { IfOk result (λ outcome. LeavesFronted D.Area (front_of numbered) world.old line.now number (W.contents writer.old) (W.contents writer.new) outcome world.new) }
+    ensures leaves { IfOk result (λ outcome.
+        LeavesFronted D.Area (front_of numbered) world.old line.now number (W.contents writer.old)
+        (W.contents writer.new) outcome world.new) }
     ensures tells { IfOk result (λ outcome. (g : Sizes) (at : Option Life) → FitsLife D.Area g at world.old.phase
         → (after : Option Life) × FitsLife D.Area g after world.new.phase
-        × Adds (λ text end. TellsFronted (front_of numbered) g at line.now number text end after) (W.contents writer.old) (W.contents writer.new) outcome) }
+        × Adds (λ text end. TellsFronted (front_of numbered) g at line.now number text end after)
+        (W.contents writer.old) (W.contents writer.new) outcome) }
 {
     let outcome = number_line(alloc, numbered, teller, world, line, number, writer)?;
     writer.flush()?;
@@ -285,10 +314,13 @@ fn number_line<D: Stoppable + Drop, L: LineTeller, W: Write>(
     number: u64,
     writer: &mut W,
 ) -> Result<Outcome, WriteFault>
-    ensures leaves { IfOk result (λ outcome. LeavesFronted D.Area (front_of numbered) world.old line.now number (W.contents writer.old) (W.contents writer.new) outcome world.new) }
+    ensures leaves { IfOk result (λ outcome.
+        LeavesFronted D.Area (front_of numbered) world.old line.now number (W.contents writer.old)
+        (W.contents writer.new) outcome world.new) }
     ensures tells { IfOk result (λ outcome. (g : Sizes) (at : Option Life) → FitsLife D.Area g at world.old.phase
         → (after : Option Life) × FitsLife D.Area g after world.new.phase
-        × Adds (λ text end. TellsFronted (front_of numbered) g at line.now number text end after) (W.contents writer.old) (W.contents writer.new) outcome) }
+        × Adds (λ text end. TellsFronted (front_of numbered) g at line.now number text end after)
+        (W.contents writer.old) (W.contents writer.new) outcome) }
 {
     if is_skipped(line) {
         return Ok(Outcome::Goes { refused: false });
@@ -316,10 +348,12 @@ fn do_line<D: Stoppable + Drop, L: LineTeller, W: Write>(
     number: u64,
     writer: &mut W,
 ) -> Result<Outcome, WriteFault>
-    ensures leaves { IfOk result (λ outcome. LeavesLine D.Area world.old line.now number (W.contents writer.old) (W.contents writer.new) outcome world.new) }
+    ensures leaves { IfOk result (λ outcome.
+        LeavesLine D.Area world.old line.now number (W.contents writer.old) (W.contents writer.new) outcome world.new) }
     ensures tells { IfOk result (λ outcome. (g : Sizes) (at : Option Life) → FitsLife D.Area g at world.old.phase
         → (after : Option Life) × FitsLife D.Area g after world.new.phase
-        × Adds (λ text end. TellsLine g at line.now number text end after) (W.contents writer.old) (W.contents writer.new) outcome) }
+        × Adds (λ text end. TellsLine g at line.now number text end after) (W.contents writer.old)
+        (W.contents writer.new) outcome) }
 {
     let Ok(read) = parse(alloc, line) else {
         return Ok(Outcome::Ends(no_memory(writer)?));
@@ -342,11 +376,14 @@ fn do_command<D: Stoppable + Drop, W: Write>(
     command: &Command,
     writer: &mut W,
 ) -> Result<Outcome, WriteFault>
-    ensures leaves { (line : List ℕ) (number : ℕ) → line_of line ≡ Commanded command.now → IfOk result (λ outcome. LeavesLine D.Area world.old line number (W.contents writer.old) (W.contents writer.new) outcome world.new) }
+    ensures leaves { (line : List ℕ) (number : ℕ) → line_of line ≡ Commanded command.now
+        → IfOk result (λ outcome. LeavesLine D.Area world.old line number (W.contents writer.old)
+        (W.contents writer.new) outcome world.new) }
     ensures tells { (line : List ℕ) (number : ℕ) → line_of line ≡ Commanded command.now
         → IfOk result (λ outcome. (g : Sizes) (at : Option Life) → FitsLife D.Area g at world.old.phase
         → (after : Option Life) × FitsLife D.Area g after world.new.phase
-        × Adds (λ text end. TellsLine g at line number text end after) (W.contents writer.old) (W.contents writer.new) outcome) }
+        × Adds (λ text end. TellsLine g at line number text end after) (W.contents writer.old)
+        (W.contents writer.new) outcome) }
 {
     match perform(world, alloc, command, writer) {
         Ok(Verdict::Done) => Ok(Outcome::Goes { refused: false }),
@@ -359,7 +396,8 @@ fn do_command<D: Stoppable + Drop, W: Write>(
 
 // The line that tells of want of memory, and its status.
 pub(crate) fn no_memory<W: Write>(writer: &mut W) -> Result<u8, WriteFault>
-    ensures shown { IfOk result (λ status. (status ≡ 1) × Appends (W.contents writer.old) (W.contents writer.new) no_memory_text) }
+    ensures shown { IfOk result (λ status. (status ≡ 1)
+        × Appends (W.contents writer.old) (W.contents writer.new) no_memory_text) }
 {
     write_no_memory(writer)?;
     Ok(REFUSED)
@@ -367,7 +405,8 @@ pub(crate) fn no_memory<W: Write>(writer: &mut W) -> Result<u8, WriteFault>
 
 // The line that tells of a script that is too long, and its status.
 pub(crate) fn too_long<W: Write>(writer: &mut W) -> Result<u8, WriteFault>
-    ensures shown { IfOk result (λ status. (status ≡ 2) × Appends (W.contents writer.old) (W.contents writer.new) too_long_text) }
+    ensures shown { IfOk result (λ status. (status ≡ 2)
+        × Appends (W.contents writer.old) (W.contents writer.new) too_long_text) }
 {
     write_too_long(writer)?;
     Ok(NOT_UNDERSTOOD)

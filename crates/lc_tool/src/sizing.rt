@@ -38,7 +38,9 @@ pub fn recover_sized<R: Files + Eprint, W: Write>(
 ) -> Result<u8, WriteFault>
 where
     R::File: SharedFile,
-    ensures tells { IfOk result (λ status. AnswersSized size.now (λ g. Adds (TellsRecovery g) (W.contents writer.old) (W.contents writer.new) status) (W.contents writer.old) (W.contents writer.new) status) }
+    ensures tells { IfOk result (λ status.
+        AnswersSized size.now (λ g. Adds (TellsRecovery g) (W.contents writer.old) (W.contents writer.new) status)
+        (W.contents writer.old) (W.contents writer.new) status) }
 {
     match size_in(alloc, rt, folder, size) {
         Ok(geometry) => recover_store(alloc, rt, errors, folder, geometry, writer),
@@ -60,7 +62,9 @@ pub fn run_sized<R: Files + Eprint, I: Read, W: Write>(
 where
     R::File: SharedFile,
     ensures tells { IfOk result (λ status. IfSome (I.remaining reader.old) (λ script.
-        AnswersSized size.now (λ g. Adds (TellsScript g (given_as manner script)) (W.contents writer.old) (W.contents writer.new) status) (W.contents writer.old) (W.contents writer.new) status)) }
+        AnswersSized size.now (λ g.
+        Adds (TellsScript g (given_as manner script)) (W.contents writer.old) (W.contents writer.new) status)
+        (W.contents writer.old) (W.contents writer.new) status)) }
 {
     match size_in(alloc, rt, folder, size) {
         Ok(geometry) => run_store(alloc, rt, errors, folder, geometry, manner, reader, writer),
@@ -68,7 +72,8 @@ where
     }
 }
 
-// The size that the store in this folder is taken to have. Why its files could not be looked at is said on standard error.
+// The size that the store in this folder is taken to have. Why its files could not be looked at is said on standard
+// error.
 fn size_in<R: Files + Eprint>(
     alloc: Global,
     rt: &R,

@@ -1,8 +1,8 @@
 //! A reader whose first fault ends the reading, and which gives so many bytes at most.
 use std::io::{self, Error, ErrorKind, Read};
 
-/// A reader that gives up at its first fault, an interrupted read too, and remembers it. It gives up also where it is asked for
-/// more than it has room for.
+/// A reader that gives up at its first fault, an interrupted read too, and remembers it. It gives up also where it is
+/// asked for more than it has room for.
 #[derive(Drop)]
 pub(crate) struct Source<'a, R: Read> {
     reader: &'a mut R,

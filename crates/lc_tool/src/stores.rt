@@ -68,8 +68,8 @@ where
 }
 
 /// Recovers the store in a folder, and prints the number of each segment and `recovered`: as `recover_areas` over the
-/// areas of its files, as they are opened (`StoreFolder::open`). A store that cannot be opened gives `device fault` and the
-/// status 3. What failed, and why, it says on standard error.
+/// areas of its files, as they are opened (`StoreFolder::open`). A store that cannot be opened gives `device fault` and
+/// the status 3. What failed, and why, it says on standard error.
 pub fn recover_store<R: Files + Eprint, W: Write>(
     alloc: Global,
     rt: &R,
@@ -80,7 +80,8 @@ pub fn recover_store<R: Files + Eprint, W: Write>(
 ) -> Result<u8, WriteFault>
 where
     R::File: SharedFile,
-    ensures tells { IfOk result (λ status. Adds (TellsRecovery geometry) (W.contents writer.old) (W.contents writer.new) status) }
+    ensures tells { IfOk result (λ status.
+        Adds (TellsRecovery geometry) (W.contents writer.old) (W.contents writer.new) status) }
 {
     let path = folder;
     let folder = StoreFolder::new(alloc, rt, path);
@@ -105,7 +106,8 @@ fn recover_in<R: Files + Eprint, W: Write>(
 ) -> Result<u8, WriteFault>
 where
     R::File: SharedFile,
-    ensures tells { IfOk result (λ status. Adds (TellsRecovery geometry) (W.contents writer.old) (W.contents writer.new) status) }
+    ensures tells { IfOk result (λ status.
+        Adds (TellsRecovery geometry) (W.contents writer.old) (W.contents writer.new) status) }
 {
     match folder.open(&geometry) {
         Ok(store) => {
@@ -125,8 +127,8 @@ where
 }
 
 /// Runs a script on the store in a folder: as `run_script` over the areas of its files, as they are opened
-/// (`StoreFolder::open`). A store that cannot be opened gives `device fault` and the status 3. What failed, and why, it says on
-/// standard error.
+/// (`StoreFolder::open`). A store that cannot be opened gives `device fault` and the status 3. What failed, and why, it
+/// says on standard error.
 pub fn run_store<R: Files + Eprint, I: Read, W: Write>(
     alloc: Global,
     rt: &R,
@@ -139,7 +141,8 @@ pub fn run_store<R: Files + Eprint, I: Read, W: Write>(
 ) -> Result<u8, ScriptFault>
 where
     R::File: SharedFile,
-    ensures tells { IfOk result (λ status. IfSome (I.remaining reader.old) (λ script. Adds (TellsScript geometry (given_as manner script)) (W.contents writer.old) (W.contents writer.new) status)) }
+    ensures tells { IfOk result (λ status. IfSome (I.remaining reader.old) (λ script.
+        Adds (TellsScript geometry (given_as manner script)) (W.contents writer.old) (W.contents writer.new) status)) }
 {
     let path = folder;
     let folder = StoreFolder::new(alloc, rt, path);
@@ -168,7 +171,8 @@ fn run_in<R: Files + Eprint, I: Read, W: Write>(
 ) -> Result<u8, ScriptFault>
 where
     R::File: SharedFile,
-    ensures tells { IfOk result (λ status. IfSome (I.remaining reader.old) (λ script. Adds (TellsScript geometry (given_as manner script)) (W.contents writer.old) (W.contents writer.new) status)) }
+    ensures tells { IfOk result (λ status. IfSome (I.remaining reader.old) (λ script.
+        Adds (TellsScript geometry (given_as manner script)) (W.contents writer.old) (W.contents writer.new) status)) }
 {
     match folder.open(&geometry) {
         Ok(store) => {

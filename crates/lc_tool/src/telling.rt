@@ -24,8 +24,8 @@ pub enum ErrorOutput {
     Other,
 }
 
-/// Shows on a terminal how many of the pages that a recovery writes are written, where they are more than a thousand; and says on standard
-/// error what a run leaves that is lost.
+/// Shows on a terminal how many of the pages that a recovery writes are written, where they are more than a thousand;
+/// and says on standard error what a run leaves that is lost.
 #[derive(Drop)]
 pub(crate) struct PageTeller<'a, R> {
     rt: &'a R,

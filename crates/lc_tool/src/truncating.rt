@@ -27,10 +27,13 @@ pub(crate) fn show_truncation<D: Stoppable + Drop, W: Write>(
     node: u16,
     writer: &mut W,
 ) -> Result<Verdict, WriteFault>
-    ensures done { IfOk result (λ verdict. Performs D.Area (FitsWorld D.Area) world.old (Truncate node) (W.contents writer.old) (W.contents writer.new) verdict world.new) }
+    ensures done { IfOk result (λ verdict.
+        Performs D.Area (FitsWorld D.Area) world.old (Truncate node) (W.contents writer.old)
+        (W.contents writer.new) verdict world.new) }
     ensures tells { IfOk result (λ verdict. (g : Geometry) (at : Option Life) → FitsLife D.Area g at world.old.phase
         → (after : Option Life) × FitsLife D.Area g after world.new.phase
-        × Adds (λ text end. TellsCommand g at (Truncate node) text end after) (W.contents writer.old) (W.contents writer.new) verdict) }
+        × Adds (λ text end. TellsCommand g at (Truncate node) text end after) (W.contents writer.old)
+        (W.contents writer.new) verdict) }
 {
     let reply = world.truncate(alloc, node);
     show_round(writer, &reply, world.round(node))
@@ -38,7 +41,8 @@ pub(crate) fn show_truncation<D: Stoppable + Drop, W: Write>(
 
 // Writes the round of a log that is empty, or the line of the reply in its place.
 fn show_round<W: Write>(writer: &mut W, reply: &Reply, round: u64) -> Result<Verdict, WriteFault>
-    ensures shown { IfOk result (λ verdict. (verdict ≡ verdict_of reply.now) × Appends (W.contents writer.old) (W.contents writer.new) (truncate_text round reply.now)) }
+    ensures shown { IfOk result (λ verdict. (verdict ≡ verdict_of reply.now)
+        × Appends (W.contents writer.old) (W.contents writer.new) (truncate_text round reply.now)) }
 {
     match reply {
         Reply::Reset | Reply::Nothing => {

@@ -14,8 +14,8 @@ use std::convert::AsStr;
 /// A run, an init and a recovery take the five options of a store's size: nodes (1 to 8), threads (1 to 16), segments
 /// (1 to 16), pages (1 to 1024) and words (64 to 4096). One that is left out is 1, and 64 for words. An option that is
 /// there twice, a number outside its range, a folder or a file that is missing and any other word more are not
-/// understood. An empty word is a word too: it is then the folder or the file that is asked for. Words that have a fault come with
-/// the parser's reason.
+/// understood. An empty word is a word too: it is then the folder or the file that is asked for. Words that have a
+/// fault come with the parser's reason.
 ///
 /// The only error is want of memory.
 pub fn read_command_line<'a, S: AsStr>(alloc: Global, words: &'a [S]) -> Result<Asked, AllocError>

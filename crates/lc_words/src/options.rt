@@ -1,7 +1,9 @@
 //! What the options of a subcommand ask for.
 ghost use Rattle.std.specs.Prelude.{◌≡◌, IfOk, IfSome, IsNone, Some, None, if◌then◌else◌};
 ghost use Rattle.clap.specs.Words.{found_of, rows_of, subcommand_rows_of};
-ghost use Rattle.lc_words.specs.CommandLine.{HasCheckedSize, HasNumbersAt, HasSize, HasSizeAt, HasText, IsCheckOf, IsCopyOf, IsDrawOf, IsDumpOf, IsInitOf, IsInspectOf, IsReadOf, IsRecoverOf, IsRunOf, IsWantedAt, is_among_words, is_any_given, number_at};
+ghost use Rattle.lc_words.specs.CommandLine.{HasCheckedSize, HasNumbersAt, HasSize, HasSizeAt, HasText, IsCheckOf};
+ghost use Rattle.lc_words.specs.CommandLine.{IsCopyOf, IsDrawOf, IsDumpOf, IsInitOf, IsInspectOf, IsReadOf};
+ghost use Rattle.lc_words.specs.CommandLine.{IsRecoverOf, IsRunOf, IsWantedAt, is_among_words, is_any_given, number_at};
 
 use crate::{Asked, RunStore, Size, Wanted};
 use clap::ArgMatches;

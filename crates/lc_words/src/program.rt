@@ -1,7 +1,10 @@
 //! The subcommands of the program, with their options and their help.
 ghost use Rattle.std.specs.Prelude.{◌≡◌, IfOk, codes, false};
 ghost use Rattle.clap.specs.Words.{App, app_of, new_app, rule_of, with_rule, with_subcommand};
-ghost use Rattle.lc_words.specs.CommandLine.{IsLike, check_app, copy_app, draw_app, dump_app, flag_rule, folder_app, init_app, inspect_app, lines_app, number_rule, option_rule, program_app, recover_app, run_app, sized_app, store_rule, top_app, with_sizes, word_rule};
+ghost use Rattle.lc_words.specs.CommandLine.{IsLike, check_app, copy_app, draw_app, dump_app, flag_rule, folder_app};
+ghost use Rattle.lc_words.specs.CommandLine.{init_app, inspect_app, lines_app, number_rule, option_rule, program_app};
+ghost use Rattle.lc_words.specs.CommandLine.{recover_app, run_app, sized_app, store_rule, top_app, with_sizes};
+ghost use Rattle.lc_words.specs.CommandLine.{word_rule};
 
 use clap::builder::ValueParser;
 use clap::{Arg, ArgAction, Command, value_parser};
@@ -133,7 +136,8 @@ fn with_subcommand<'a>(
     command: Command<'a>,
     made: Result<Command<'a>, AllocError>,
 ) -> Result<Command<'a>, AllocError>
-    ensures { (app below : App) → IsLike command.entry app → IfOk made.entry (λ sub. IsLike sub below) → IfOk result (λ larger. IsLike larger (with_subcommand app below.top)) }
+    ensures { (app below : App) → IsLike command.entry app → IfOk made.entry (λ sub. IsLike sub below)
+        → IfOk result (λ larger. IsLike larger (with_subcommand app below.top)) }
 {
     command.subcommand(made?)
 }
@@ -231,7 +235,7 @@ fn dump<'a>(alloc: Global) -> Result<Command<'a>, AllocError>
     over_folder(
         alloc,
         "dump",
-        "Prints a page as it would be behind a recovery, and its two slots, and changes nothing",
+        "Prints a page as it would be after a recovery, and its two slots, and changes nothing",
         DUMP_HELP,
         STORE_FOLDER,
     )?
@@ -375,7 +379,9 @@ fn with_option<'a>(
     default: &'a str,
     parser: ValueParser<'a>,
 ) -> Result<Command<'a>, AllocError>
-    ensures { (app : App) → IsLike command.entry app → IfOk result (λ larger. IsLike larger (with_rule app (option_rule name.entry.now default.entry.now parser.entry))) }
+    ensures { (app : App) → IsLike command.entry app
+        → IfOk result (λ larger. IsLike larger
+        (with_rule app (option_rule name.entry.now default.entry.now parser.entry))) }
 {
     command.arg(option(alloc, name, help, default, parser))
 }
@@ -387,7 +393,8 @@ fn with_flag<'a>(
     name: &'a str,
     help: &'a str,
 ) -> Result<Command<'a>, AllocError>
-    ensures { (app : App) → IsLike command.entry app → IfOk result (λ larger. IsLike larger (with_rule app (flag_rule name.entry.now))) }
+    ensures { (app : App) → IsLike command.entry app
+        → IfOk result (λ larger. IsLike larger (with_rule app (flag_rule name.entry.now))) }
 {
     command.arg(flag(alloc, name, help))
 }

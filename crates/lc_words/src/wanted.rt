@@ -21,12 +21,15 @@ pub struct Wanted {
 }
 
 impl Wanted {
-    /// These numbers, and for those that are not given the ones of a size that was found; None exactly where one of them is
-    /// outside its range.
+    /// These numbers, and for those that are not given the ones of a size that was found; None exactly where one of
+    /// them is outside its range.
     pub fn over(&self, found: &Geometry) -> Option<Geometry>
-        ensures value { IfSome result (λ g. HasNumbers g (unwrap_or self.now.nodes found.now.nodes) self.now.threads (unwrap_or self.now.segments found.now.segments)
+        ensures value { IfSome result (λ g.
+            HasNumbers g (unwrap_or self.now.nodes found.now.nodes) self.now.threads
+            (unwrap_or self.now.segments found.now.segments)
             (unwrap_or self.now.pages found.now.pages) (unwrap_or self.now.words found.now.words)) }
-        ensures within { IsSome result ↔ IsGeometry (unwrap_or self.now.nodes found.now.nodes) self.now.threads (unwrap_or self.now.segments found.now.segments)
+        ensures within { IsSome result ↔ IsGeometry (unwrap_or self.now.nodes found.now.nodes) self.now.threads
+            (unwrap_or self.now.segments found.now.segments)
             (unwrap_or self.now.pages found.now.pages) (unwrap_or self.now.words found.now.words) }
     {
         Geometry::new(
