@@ -12,6 +12,7 @@ mod sleeping;
 mod taking;
 mod ticket_lock;
 mod tickets;
+mod trying;
 mod turn;
 
 pub use keyed::Keyed;
