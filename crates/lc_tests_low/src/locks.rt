@@ -111,6 +111,32 @@ fn add_by_lengths<R: Wait>(rt: &R, lock: &TicketLock<Tally, u64>, passed: &Atomi
     }
 }
 
+// Adds 1 where it gets the lock at once, and answers whether it did.
+fn add_at_once(lock: &TicketLock<Tally, u64>) -> bool {
+    match lock.try_lock() {
+        Some((tally, loan)) => {
+            lock.unlock_silently(plus_one(tally), loan);
+            true
+        }
+        None => false,
+    }
+}
+
+// Tries until it has added as often as `add_all` does.
+fn add_all_by_tries<R: Wait>(rt: &R, lock: &TicketLock<Tally, u64>) {
+    let mut missing = ADDITIONS;
+    for _ in rt.forever() {
+        if missing == 0 {
+            return;
+        }
+        if add_at_once(lock) {
+            missing -= 1;
+        } else {
+            yield_now();
+        }
+    }
+}
+
 // Looks until so many additions are made, and ends the test where they are not made in time.
 fn watch<R: Abort + Clock>(rt: &R, passed: &AtomicU64, all: u64) {
     for _ in 0..LOOKS {
@@ -192,6 +218,52 @@ fn no_addition_is_lost(rt: HostRuntime) -> Result<(), Fail> {
     let host = &rt;
     map_indices(&rt, rt.alloc(), THREADS, &|_| add_all(host, shared))?;
     assert!(rt; look(&rt, &lock) == (40_007, 40_000));
+    assert!(rt; lock.tickets_out() == 0);
+    Ok(())
+}
+
+// Who only tries waits for nobody, and nobody has to wake it.
+#[test]
+fn no_addition_by_a_try_is_lost(rt: HostRuntime) -> Result<(), Fail> {
+    let tally = Tally {
+        total: 7,
+        additions: 0,
+    };
+    let Ok(lock) = TicketLock::new(rt.alloc(), tally, &7) else {
+        return Err(Fail::from("there is memory for a lock"));
+    };
+    let shared = &lock;
+    let host = &rt;
+    map_indices(
+        &rt,
+        rt.alloc(),
+        THREADS,
+        &|_| add_all_by_tries(host, shared),
+    )?;
+    assert!(rt; look(&rt, &lock) == (40_007, 40_000));
+    assert!(rt; lock.tickets_out() == 0);
+    Ok(())
+}
+
+// A try that fails draws no ticket.
+#[test]
+fn a_try_takes_the_value_where_no_ticket_is_out(rt: HostRuntime) -> Result<(), Fail> {
+    let (lock, loan): (TicketLock<Tally, u64>, Loan<Tally, u64>) = TicketLock::vacant(
+        rt.alloc(),
+        &7,
+    )?;
+    let bringer = Bringer { lock: &lock, loan };
+    assert!(rt; !add_at_once(&lock));
+    assert!(rt; lock.tickets_out() == 1);
+    drop(bringer);
+    assert!(rt; add_at_once(&lock));
+    let (tally, loan) = lock.lock(&rt);
+    let is_added = add_at_once(&lock);
+    let tickets = lock.tickets_out();
+    lock.unlock(tally, loan);
+    assert!(rt; !is_added && tickets == 1);
+    assert!(rt; add_at_once(&lock));
+    assert!(rt; look(&rt, &lock) == (9, 2));
     assert!(rt; lock.tickets_out() == 0);
     Ok(())
 }
