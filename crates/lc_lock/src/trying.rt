@@ -8,8 +8,9 @@ use crate::turn::{SLOT, WORD};
 use crate::{Keyed, Loan, TicketLock};
 
 impl<T: Keyed<K>, K> TicketLock<T, K> {
-    /// Takes the value where no ticket is out, as `lock` does. None says that a ticket was out or was drawn meanwhile: no clause
-    /// says so, since the lock has nothing to name that moment by. It never waits, takes no memory and draws no ticket in vain.
+    /// Takes the value where no ticket is out, as `lock` does. None says that a ticket was out or was drawn meanwhile:
+    /// no clause says so, since the lock has nothing to name that moment by. It never waits, takes no memory and draws
+    /// no ticket in vain.
     pub fn try_lock(&self) -> Option<(T, Loan<T, K>)>
         ensures fits { IfSome result (λ taken. T.fits (key_of self.now) taken.0) }
         ensures loan { IfSome result (λ taken. IsLoanOf self.now taken.1) }
@@ -35,8 +36,8 @@ impl<T: Keyed<K>, K> TicketLock<T, K> {
         Some((value, Loan { seat, ticket }))
     }
 
-    /// Gives a value back as `unlock` does, but wakes nobody: for a lock on which nobody waits by `lock`. Who does may then sleep for
-    /// ever. It never waits, and takes no memory.
+    /// Gives a value back as `unlock` does, but wakes nobody: for a lock on which nobody waits by `lock`. Who does may
+    /// then sleep for ever. It never waits, and takes no memory.
     pub fn unlock_silently(&self, value: T, loan: Loan<T, K>)
         requires fits { T.fits (key_of self.now) value }
         requires loan { IsLoanOf self.now loan }

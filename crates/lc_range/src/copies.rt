@@ -1,5 +1,6 @@
 //! Bytes of ranges, taken from an image one after another and put back.
-ghost use Rattle.std.specs.Prelude.{◌≡◌, ◌⊎◌, ◌+◌, ◌-◌, ◌^◌, ◌<◌, ◌≤◌, [], ◌∷◌, ◌++◌, ℕ, length, slice_index, unwrap_or, OnOk, OnErr};
+ghost use Rattle.std.specs.Prelude.{◌≡◌, ◌⊎◌, ◌+◌, ◌-◌, ◌^◌, ◌<◌, ◌≤◌, [], ◌∷◌, ◌++◌, ℕ, length, slice_index};
+ghost use Rattle.std.specs.Prelude.{unwrap_or, OnOk, OnErr};
 ghost use Rattle.lc_range.specs.RangeSet.{total_len};
 ghost use Rattle.lc_range.specs.Copies.{AreCopies, AreSome, copies_of, first_ranges, is_last_continued, with_range};
 ghost use Rattle.lc_range.specs.Undo.{LiesBelow, kept};
@@ -20,7 +21,8 @@ pub fn add(
     ensures ranges { OnOk result (ranges.new.items ≡ with_range ranges.old.items range) }
     ensures bytes { OnOk result (bytes.new.items ≡ bytes.old.items ++ copy.now) }
     ensures err { OnErr result ((ranges.new.items ≡ ranges.old.items) × (bytes.new.items ≡ bytes.old.items)) }
-    ensures memory { OnErr result ((ranges.old.capacity < length (with_range ranges.old.items range)) ⊎ (bytes.old.capacity < length bytes.old.items + length copy.now)) }
+    ensures memory { OnErr result ((ranges.old.capacity < length (with_range ranges.old.items range))
+        ⊎ (bytes.old.capacity < length bytes.old.items + length copy.now)) }
     ensures ranges_capacity { ranges.old.capacity ≤ ranges.new.capacity }
     ensures bytes_capacity { bytes.old.capacity ≤ bytes.new.capacity }
 {

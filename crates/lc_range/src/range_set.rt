@@ -1,5 +1,6 @@
 //! The positions that a transaction has set.
-ghost use Rattle.std.specs.Prelude.{◌≡◌, ◌+◌, ◌-◌, ◌^◌, ◌<◌, ◌≤◌, ◌↔◌, ℕ, [], ◌∷◌, false, length, Err, IsTrue, OnOk, OnErr};
+ghost use Rattle.std.specs.Prelude.{◌≡◌, ◌+◌, ◌-◌, ◌^◌, ◌<◌, ◌≤◌, ◌↔◌, ℕ, [], ◌∷◌, false, length, Err, IsTrue, OnOk};
+ghost use Rattle.std.specs.Prelude.{OnErr};
 ghost use Rattle.lc_range.specs.Touched.{IsTouched};
 ghost use Rattle.lc_range.specs.RangeSet.{Has, IsCanonical, EndWithin, AddsPositions, MissesSome, NeedsRunsAbove};
 ghost use Rattle.lc_range.specs.Walk.{merged};
@@ -118,7 +119,8 @@ impl RangeSet {
         requires room { length (merged place.now.range self.old) ≤ 64 }
         ensures ok { OnOk result (self.new ≡ merged place.now.range self.old) }
         ensures err { OnErr result (self.new ≡ self.old) }
-        ensures memory { OnErr result ((8 ≤ length self.old) × (length self.old < length (merged place.now.range self.old))) }
+        ensures memory { OnErr result ((8 ≤ length self.old)
+            × (length self.old < length (merged place.now.range self.old))) }
     {
         if place.start < place.end {
             replace(&mut self.runs, place.start, place.end, place.run);

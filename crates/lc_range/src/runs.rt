@@ -1,5 +1,6 @@
 //! A set's runs, walked and changed in place.
-ghost use Rattle.std.specs.Prelude.{◌≡◌, ◌+◌, ◌-◌, ◌^◌, ◌<◌, ◌≤◌, ◌↔◌, [], ◌∷◌, ◌++◌, IsTrue, true, false, length, take, drop};
+ghost use Rattle.std.specs.Prelude.{◌≡◌, ◌+◌, ◌-◌, ◌^◌, ◌<◌, ◌≤◌, ◌↔◌, [], ◌∷◌, ◌++◌, IsTrue, true, false, length};
+ghost use Rattle.std.specs.Prelude.{take, drop};
 ghost use Rattle.std.specs.List.{AllWithin};
 ghost use Rattle.std.specs.List.Sorted.{IsPartitionPoint};
 ghost use Rattle.smallvec.specs.SmallVec.{small_vec_len};
@@ -27,7 +28,8 @@ fn are_before(runs: &[Range], range: &Range) -> bool
 pub fn count_before(runs: &[Range], range: &Range) -> usize
     requires { IsCanonical runs.now }
     ensures within { result ≤ length runs.now }
-    ensures place { IsPartitionPoint (λ run. is_before run range.now ≡ true) (λ run. is_before run range.now ≡ false) runs.now result }
+    ensures place { IsPartitionPoint (λ run. is_before run range.now ≡ true)
+        (λ run. is_before run range.now ≡ false) runs.now result }
     ensures rest { take result runs.now ++ absorbed range.now (drop result runs.now) ≡ merged range.now runs.now }
 {
     let Some((last, front)) = runs.split_last() else {

@@ -1,7 +1,9 @@
 //! The old bytes of a transaction, which an abort puts back.
-ghost use Rattle.std.specs.Prelude.{◌≡◌, ◌⊎◌, ◌+◌, ◌-◌, ◌^◌, ◌<◌, ◌≤◌, ℕ, [], ◌∷◌, length, min, slice_index, unwrap_or, OnOk, OnErr};
+ghost use Rattle.std.specs.Prelude.{◌≡◌, ◌⊎◌, ◌+◌, ◌-◌, ◌^◌, ◌<◌, ◌≤◌, ℕ, [], ◌∷◌, length, min, slice_index, unwrap_or};
+ghost use Rattle.std.specs.Prelude.{OnOk, OnErr};
 ghost use Rattle.lc_range.specs.RangeSet.{CountsOutside, EndWithin, IsCanonical, MissesSome};
-ghost use Rattle.lc_range.specs.Undo.{AddsCopies, KeepsOld, LiesBelow, NeedsBytesAbove, NeedsCopiesAbove, TakeMemory, bytes_kept, first_bytes, kept};
+ghost use Rattle.lc_range.specs.Undo.{AddsCopies, KeepsOld, LiesBelow, NeedsBytesAbove, NeedsCopiesAbove, TakeMemory};
+ghost use Rattle.lc_range.specs.Undo.{bytes_kept, first_bytes, kept};
 ghost use Rattle.lc_range.specs.Copies.{copy_at, with_copies};
 ghost use Rattle.lc_range.specs.Walk.{parts_of, piece};
 ghost use Rattle.lc_range.specs.Touched.{IsTouched};
@@ -95,7 +97,8 @@ impl Undo {
 
         // Memory is wanted only for a copy, beside 8 at least or 64 bytes.
         ensures memory { OnErr result (MissesSome set.now segment offset len) }
-        ensures needs { OnErr result (NeedsCopiesAbove 8 self.old set.now segment offset len ⊎ NeedsBytesAbove 64 self.old set.now segment offset len) }
+        ensures needs { OnErr result (NeedsCopiesAbove 8 self.old set.now segment offset len
+            ⊎ NeedsBytesAbove 64 self.old set.now segment offset len) }
     {
         let range = Range {
             segment,
@@ -116,7 +119,8 @@ impl Undo {
         requires place { IsTouched set.now place.now }
         requires within { place.now.range.offset + place.now.range.len ≤ min (length image.now) (2 ^ 32 - 1) }
         ensures kept { OnOk result
-            (KeepsOld self.old set.now place.now.range.segment place.now.range.offset place.now.range.len (slice_index image.now) self.new) }
+            (KeepsOld self.old set.now place.now.range.segment place.now.range.offset place.now.range.len
+            (slice_index image.now) self.new) }
         ensures front { OnOk result (first_bytes (bytes_kept self.old) self.new ≡ self.old) }
         ensures count { OnOk result ((n : ℕ)
             × CountsOutside set.now place.now.range.segment place.now.range.offset place.now.range.len n
@@ -124,9 +128,11 @@ impl Undo {
         ensures copies { OnOk result
             (AddsCopies self.old set.now place.now.range.segment place.now.range.offset place.now.range.len self.new) }
         ensures below { OnOk result ((s bound : ℕ) → LiesBelow self.old s bound
-            → (s ≡ place.now.range.segment → place.now.range.offset + place.now.range.len ≤ bound) → LiesBelow self.new s bound) }
+            → (s ≡ place.now.range.segment → place.now.range.offset + place.now.range.len ≤ bound)
+            → LiesBelow self.new s bound) }
         ensures err { OnErr result (self.new ≡ self.old) }
-        ensures memory { OnErr result (MissesSome set.now place.now.range.segment place.now.range.offset place.now.range.len) }
+        ensures memory { OnErr result
+            (MissesSome set.now place.now.range.segment place.now.range.offset place.now.range.len) }
         ensures needs { OnErr result
             (NeedsCopiesAbove 8 self.old set.now place.now.range.segment place.now.range.offset place.now.range.len
             ⊎ NeedsBytesAbove 64 self.old set.now place.now.range.segment place.now.range.offset place.now.range.len) }

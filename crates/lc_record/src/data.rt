@@ -1,5 +1,6 @@
 //! The bytes of a range as whole words, the last of them filled up with zeros.
-ghost use Rattle.std.specs.Prelude.{◌≡◌, ◌==◌, ◌+◌, ◌-◌, ◌<◌, ◌≤◌, [], ◌∷◌, ◌++◌, length, replicate, slice_get, slice_index, take, vec_len, vec_capacity, IfOk};
+ghost use Rattle.std.specs.Prelude.{◌≡◌, ◌==◌, ◌+◌, ◌-◌, ◌<◌, ◌≤◌, [], ◌∷◌, ◌++◌, length, replicate, slice_get};
+ghost use Rattle.std.specs.Prelude.{slice_index, take, vec_len, vec_capacity, IfOk};
 ghost use Rattle.std.specs.List.{list_all};
 ghost use Rattle.std.specs.Int.{w64, from_le_bytes};
 ghost use Rattle.lc_record.specs.Words.{bytes_of};
@@ -24,7 +25,8 @@ fn byte_or_zero(bytes: &[u8], place: usize) -> u8
     bytes.get(place).copied().unwrap_or(0)
 }
 
-// The word of at most eight bytes. It is put together in a register, since a load behind stores of single bytes waits for them.
+// The word of at most eight bytes. It is put together in a register, since a load behind stores of single bytes waits
+// for them.
 fn word_of(bytes: &[u8]) -> u64
     requires { length bytes.now ≤ 8 }
     ensures { result ≡ from_le_bytes w64 (bytes.now ++ replicate (8 - length bytes.now) 0) }

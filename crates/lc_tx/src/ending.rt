@@ -1,5 +1,6 @@
 //! The end of a transaction.
-ghost use Rattle.std.specs.Prelude.{◌≡◌, ◌↔◌, ◌<◌, ◌≤◌, ℕ, [], ◌∷◌, None, List, length, vec_capacity, IfOk, IfErr, OnErr, IsTrue, MatchResult, Some};
+ghost use Rattle.std.specs.Prelude.{◌≡◌, ◌↔◌, ◌<◌, ◌≤◌, ℕ, [], ◌∷◌, None, List, length, vec_capacity, IfOk, IfErr};
+ghost use Rattle.std.specs.Prelude.{OnErr, IsTrue, MatchResult, Some};
 ghost use Rattle.lc_record.specs.Record.{record_layout, record_len, IsRecord};
 ghost use Rattle.lc_record.specs.declared.layout.Layout.{Layout as Laid};
 ghost use Rattle.lc_tx.specs.Images.{AreReleased, AreRestored, IsSame};
@@ -27,7 +28,8 @@ impl Tx {
 
         // Whichever node logs it.
         ensures empty { (result ≡ Ok None) ↔ (self.now.set ≡ []) }
-        ensures laid { (node : ℕ) (layout : Laid) → (result ≡ Ok (Some layout)) ↔ (IsLoggable I.Images images.now self.now node
+        ensures laid { (node : ℕ) (layout : Laid) → (result ≡ Ok (Some layout))
+            ↔ (IsLoggable I.Images images.now self.now node
             × (layout ≡ record_layout (final_record I.Images images.now self.now node))) }
         ensures spent { (node s : ℕ) → (result ≡ Err (TxFault.SequenceSpent s))
             ↔ IsFirstSpent (final_record I.Images images.now self.now node).locks s }
@@ -86,7 +88,8 @@ impl Tx {
 
         // Where there is a layout, there is a record that is laid out so, or no memory; elsewhere no memory is wanted.
         ensures ready { IsLoggable I.Images images.old self.now node
-            → MatchResult result (IsRecordOf (final_record I.Images images.old self.now node)) (λ fault. fault ≡ TxFault.NoMemory) }
+            → MatchResult result (IsRecordOf (final_record I.Images images.old self.now node)) (λ fault. fault
+            ≡ TxFault.NoMemory) }
         ensures no_memory { result ≡ Err TxFault.NoMemory → IsLoggable I.Images images.old self.now node }
 
         ensures faults { IfErr result (λ fault. IsTrue (is_of_end fault)) }
@@ -121,10 +124,12 @@ impl Tx {
         requires loggable { IsLoggable I.Images images.old self.now node }
         requires laid { layout.now ≡ record_layout (final_record I.Images images.old self.now node) }
         ensures record { IfOk result (λ words. IsRecord (final_record I.Images images.old self.now node) words) }
-        ensures len { IfOk result (λ words. length words ≡ record_len (final_record I.Images images.old self.now node)) }
+        ensures len { IfOk result (λ words. length words
+            ≡ record_len (final_record I.Images images.old self.now node)) }
         ensures images { IsSame I.Images images.old images.new }
         ensures runs { RunsOn I.Images images.new self.now }
-        ensures memory { OnErr result (vec_capacity memory < record_len (final_record I.Images images.old self.now node)) }
+        ensures memory { OnErr result (vec_capacity memory
+            < record_len (final_record I.Images images.old self.now node)) }
     {
         let runs = self.set.ranges();
         let words = spell(memory, images, runs, node, layout)?;
@@ -158,7 +163,8 @@ impl Tx {
     // Gives back its locks.
     fn unlock<I: Images>(&self, images: &mut I)
         requires { RunsOn I.Images images.old self.now }
-        ensures { AreReleased I.Images self.now.thread self.now.locked.items self.now.reading.items images.old images.new }
+        ensures { AreReleased I.Images self.now.thread self.now.locked.items self.now.reading.items images.old
+            images.new }
     {
         if let ([segment], []) = (self.locked(), self.reading()) {
             images.image(*segment).holders = Holders::Free;
@@ -173,7 +179,8 @@ impl Tx {
     /// restore mode (Satyanarayanan et al., TOCS 1994).
     pub fn abort<I: Images>(self, images: &mut I)
         requires runs { RunsOn I.Images images.old self }
-        ensures { AreRestored I.Images self.undo self.thread self.locked.items self.reading.items images.old images.new }
+        ensures { AreRestored I.Images self.undo self.thread self.locked.items self.reading.items images.old
+            images.new }
     {
         self.restore(images);
         self.release(images);
@@ -183,7 +190,8 @@ impl Tx {
     /// memory of its lists kept for the next one.
     pub fn abort_in_place<I: Images>(&mut self, images: &mut I)
         requires runs { RunsOn I.Images images.old self.old }
-        ensures restored { AreRestored I.Images self.old.undo self.old.thread self.old.locked.items self.old.reading.items
+        ensures restored { AreRestored I.Images self.old.undo self.old.thread self.old.locked.items
+            self.old.reading.items
             images.old images.new }
         ensures idle { IsIdle self.new }
         ensures thread { self.new.thread ≡ self.old.thread }

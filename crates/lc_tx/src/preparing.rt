@@ -1,5 +1,6 @@
 //! The end of a transaction in the memory of the one before.
-ghost use Rattle.std.specs.Prelude.{◌≡◌, ◌↔◌, ◌⊎◌, ◌<◌, ◌≤◌, ℕ, [], true, false, length, vec_capacity, Ok, Err, IfErr, OnErr, IsTrue};
+ghost use Rattle.std.specs.Prelude.{◌≡◌, ◌↔◌, ◌⊎◌, ◌<◌, ◌≤◌, ℕ, [], true, false, length, vec_capacity, Ok, Err, IfErr};
+ghost use Rattle.std.specs.Prelude.{OnErr, IsTrue};
 ghost use Rattle.lc_record.specs.Record.{record_len, IsRecord};
 ghost use Rattle.lc_tx.specs.Images.{IsSame};
 ghost use Rattle.lc_tx.specs.Prepared.{AreSmall, AreUnspent, IsFirstSpent, IsLoggable, final_record};
@@ -48,7 +49,8 @@ impl Tx {
         ensures refused { OnErr result (words.new ≡ words.old) }
 
         // Where there is a layout, there is a record, or no memory; elsewhere no memory is wanted.
-        ensures ready { IsLoggable I.Images images.old self.now node → (result ≡ Ok true) ⊎ (result ≡ Err TxFault.NoMemory) }
+        ensures ready { IsLoggable I.Images images.old self.now node
+            → (result ≡ Ok true) ⊎ (result ≡ Err TxFault.NoMemory) }
         ensures no_memory { result ≡ Err TxFault.NoMemory → IsLoggable I.Images images.old self.now node
             × (vec_capacity words.old < record_len (final_record I.Images images.old self.now node)) }
 

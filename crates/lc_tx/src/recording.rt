@@ -1,5 +1,6 @@
 //! The record of a transaction's runs.
-ghost use Rattle.std.specs.Prelude.{◌≡◌, ◌+◌, ◌*◌, ◌<◌, ◌≤◌, ◌^◌, [], ◌∷◌, ◌++◌, length, map, take, drop, unwrap_or, vec_capacity, IfOk, OnErr};
+ghost use Rattle.std.specs.Prelude.{◌≡◌, ◌+◌, ◌*◌, ◌<◌, ◌≤◌, ◌^◌, [], ◌∷◌, ◌++◌, length, map, take, drop, unwrap_or};
+ghost use Rattle.std.specs.Prelude.{vec_capacity, IfOk, OnErr};
 ghost use Rattle.std.specs.List.{AllByRecursion, flat_map};
 ghost use Rattle.lc_record.specs.Words.{AreBytes};
 ghost use Rattle.lc_record.specs.Layout.{layout_len};
@@ -74,7 +75,8 @@ pub fn spell<I: Images>(
     requires laid { layout.now ≡ runs_layout runs.now }
     requires short { layout_len layout.now ≤ 4096 }
     ensures words { IfOk result (λ words. words.items ≡ spelling_of (runs_record I.Images images.old runs.now node)) }
-    ensures fit { IfOk result (λ words. AllByRecursion (λ it. AreBytes it.bytes) (map (run_data I.Images images.old) runs.now)) }
+    ensures fit { IfOk result (λ words. AllByRecursion (λ it. AreBytes it.bytes)
+        (map (run_data I.Images images.old) runs.now)) }
     ensures same { IsSame I.Images images.old images.new }
     ensures memory { OnErr result (vec_capacity memory < layout_len layout.now) }
 {
@@ -124,7 +126,8 @@ fn add_next_lock<I: Images>(spelling: &mut Spelling, images: &I, segment: u32)
 fn add_ranges<I: Images>(spelling: &mut Spelling, images: &mut I, runs: &[Range])
     requires inside { AreInside I.Images images.old runs.now }
     requires room { length spelling.old.words
-        + length (flat_map (range_words spelling.old.version) (map (run_data I.Images images.old) runs.now)) ≤ spelling.old.len }
+        + length (flat_map (range_words spelling.old.version) (map (run_data I.Images images.old) runs.now))
+        ≤ spelling.old.len }
     ensures spelled { spelling.new ≡ record spelling.old {
       words = spelling.old.words
           ++ flat_map (range_words spelling.old.version) (map (run_data I.Images images.old) runs.now);
