@@ -20,8 +20,9 @@ use std::thread;
 ///
 /// # Errors
 ///
-/// `NotHere` where the node has no such segment, and where the token is not here after the last turn: in that turn each
-/// peer either had no token or was to give it. `Halted` and `DeviceFault` of a peer that has the token.
+/// `NotHere` where the node has no such segment, and where the token is not here after the last turn. Where there is a
+/// turn, in one of them each peer either had no token or was to give it. `Halted` and `DeviceFault` of a peer that had
+/// the token in one of the turns.
 pub fn acquire<D: Area + Drop, R: AllocGlobal + Wait>(
     rt: &R,
     cluster: &Cluster<D>,
