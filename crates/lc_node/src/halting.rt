@@ -46,7 +46,7 @@ impl<D: Area + Drop> LogSide<D> {
     /// # Errors
     ///
     /// `Halted` exactly where it serves no more, and else `RoundsSpent` exactly where it is in its last round.
-    pub(crate) fn may_truncate(&self) -> Result<(), NodeFault>
+    pub fn may_truncate(&self) -> Result<(), NodeFault>
         ensures halted { (result ≡ Err Halted) ↔ (self.now.is_halted ≡ true) }
         ensures spent { (result ≡ Err RoundsSpent) ↔ ((self.now.is_halted ≡ false) × IsSpent self.now) }
         ensures may { OnOk result ((self.now.is_halted ≡ false) × ¬ IsSpent self.now) }
@@ -71,8 +71,8 @@ impl<D: Area + Drop> Node<D> {
         self.halted.load(SeqCst) != 0
     }
 
-    /// Lets all who commit know where the log is halted.
-    pub(crate) fn tell_halted(&self, log: &LogSide<D>) {
+    /// Lets all who commit know where this log, which is the node's, is halted.
+    pub fn tell_halted(&self, log: &LogSide<D>) {
         if log.is_halted() {
             self.halted.store(FAILED, SeqCst);
         }

@@ -145,9 +145,14 @@ impl<D: Area + Drop> Node<D> {
         truncated
     }
 
-    // Truncates the log with these sides. Where the node is alone nobody wants the records of the rounds that have
-    // ended.
-    fn truncate_log(
+    /// Truncates a log whose lock the caller has, with these segments, which it holds: see `truncate`. The places of
+    /// `writes` have room for the pages of each. Whoever calls it tells the node where the log is halted then, by
+    /// `tell_halted`.
+    ///
+    /// # Errors
+    ///
+    /// Those of `truncate`. `Unclean` too of a record of a segment that is not among these.
+    pub fn truncate_log(
         &self,
         log: &mut LogSide<D>,
         sides: &mut Vec<HeldSide<D>>,
