@@ -72,8 +72,8 @@ impl<D: Area + Drop> SegSide<D> {
     }
 }
 
-/// The most pages that one of these segments has.
-pub fn most_pages<D: Area + Drop>(sides: &[HeldSide<D>]) -> usize
+// The most pages that one of these segments has.
+pub(crate) fn most_pages<D: Area + Drop>(sides: &[HeldSide<D>]) -> usize
     ensures { All (HasPagesIn result) sides.now }
 {
     let mut most = 0;

@@ -71,8 +71,8 @@ impl<D: Area + Drop> Node<D> {
         self.halted.load(SeqCst) != 0
     }
 
-    /// Lets all who commit know where this log, which is the node's, is halted.
-    pub fn tell_halted(&self, log: &LogSide<D>) {
+    /// Lets all who commit know where the log is halted.
+    pub(crate) fn tell_halted(&self, log: &LogSide<D>) {
         if log.is_halted() {
             self.halted.store(FAILED, SeqCst);
         }

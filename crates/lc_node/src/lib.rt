@@ -97,13 +97,12 @@ mod vacant;
 mod wiring;
 mod work;
 
-pub use cleaning::most_pages;
 pub use cluster::Cluster;
 pub use commit_kind::{Commit, Mode};
 pub use confirming::Confirmed;
 pub use gate::Gate;
 pub use get::Get;
-pub use held::{Held, HeldSide};
+pub use held::Held;
 pub use laws::{
     starts_stay, work_is_laid_over, works_nothing, works_range, works_then, works_write,
 };

@@ -1,5 +1,5 @@
 //! The truncation of a node's log.
-ghost use Rattle.std.specs.Prelude.{◌≡◌, ◌≤◌, [], All, IfErr, IfOk, OnOk};
+ghost use Rattle.std.specs.Prelude.{◌≡◌, ◌⊎◌, ◌≤◌, [], All, IfErr, IfOk, OnOk};
 ghost use Rattle.std.specs.VecDeque.{deque_capacity};
 ghost use Rattle.lc_stage.specs.Seats.{IsFlusherOf, IsSeatOf};
 ghost use Rattle.lc_node.specs.Each.{Each};
@@ -11,6 +11,7 @@ ghost use Rattle.lc_node.specs.Logs.{IsLogOf};
 ghost use Rattle.lc_node.specs.Truncates.{HasNotTruncated, HasPagesIn, HasTruncated, IsOfTruncation, IsSameHeld};
 ghost use Rattle.lc_node.specs.Truncates.{IsUntruncated, IsUntruncatedHeld, IsUntruncatedInRoom, MayTruncate};
 ghost use Rattle.lc_node.specs.Truncates.{Truncates, TruncatesAlone, TruncatesHeld, TruncatesInRoom};
+ghost use Rattle.lc_node.specs.declared.node_fault.NodeFault.TheVariants.{NoMemory};
 
 use crate::cleaning::{most_pages, write_all};
 use crate::held::{Held, HeldSide};
@@ -134,25 +135,48 @@ impl<D: Area + Drop> Node<D> {
         ensures refused { IfErr result (λ fault.
             IsUntruncatedHeld D.Area self.now held.old.sides.items fault held.new.sides.items) }
     {
-        let most = most_pages(held.sides.as_slice());
-        let Ok(mut writes) = VecDeque::with_capacity(alloc, most) else {
-            return Err(NodeFault::NoMemory);
-        };
         let (mut log, loan) = self.log.lock(rt);
-        let truncated = self.truncate_log(&mut log, &mut held.sides, &mut writes);
-        self.tell_halted(&log);
+        let truncated = self.truncate_in(alloc, &mut log, held);
         self.log.unlock(log, loan);
         truncated
     }
 
-    /// Truncates a log whose lock the caller has, with these segments, which it holds: see `truncate`. The places of
-    /// `writes` have room for the pages of each. Whoever calls it tells the node where the log is halted then, by
-    /// `tell_halted`.
+    /// Does what `truncate` does, for who has the lock of the log and holds these segments. Where they are not all, a
+    /// record of another is `Unclean`.
     ///
     /// # Errors
     ///
-    /// Those of `truncate`. `Unclean` too of a record of a segment that is not among these.
-    pub fn truncate_log(
+    /// Those of `truncate`. Where there is no memory for the writes of pages, nothing has changed.
+    pub fn truncate_in(
+        &self,
+        alloc: Global,
+        log: &mut LogSide<D>,
+        held: &mut Held<D>,
+    ) -> Result<u64, NodeFault>
+        requires own { IsLogOf self.now log.old }
+        requires held { All (IsHeldOf self.now) held.old.sides.items }
+        ensures own { IsLogOf self.now log.new }
+        ensures held { All (IsHeldOf self.now) held.new.sides.items }
+        ensures segments { segments_of held.new ≡ segments_of held.old }
+        ensures truncated { IfOk result (λ round. TruncatesAlone D.Area self.now.is_alone self.now.stage.room log.old
+            held.old.sides.items round log.new held.new.sides.items) }
+        ensures refused { IfErr result (λ fault.
+            ((fault ≡ NoMemory) × (log.new ≡ log.old) × (held.new.sides.items ≡ held.old.sides.items))
+            ⊎ IsUntruncatedInRoom D.Area self.now.stage.room log.old held.old.sides.items fault log.new
+            held.new.sides.items) }
+    {
+        let most = most_pages(held.sides.as_slice());
+        let Ok(mut writes) = VecDeque::with_capacity(alloc, most) else {
+            return Err(NodeFault::NoMemory);
+        };
+        let truncated = self.truncate_log(log, &mut held.sides, &mut writes);
+        self.tell_halted(log);
+        truncated
+    }
+
+    // Truncates the log with these sides. Where the node is alone nobody wants the records of the rounds that have
+    // ended.
+    fn truncate_log(
         &self,
         log: &mut LogSide<D>,
         sides: &mut Vec<HeldSide<D>>,

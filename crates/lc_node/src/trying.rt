@@ -16,8 +16,8 @@ use lc_stage::{CommitSeat, Receipt};
 use std::alloc::Global;
 
 impl<D: Area + Drop> Node<D> {
-    /// Gets the locks of these segments, each once, where all are free. Where one is not, it gives back those that it got, and answers
-    /// None. It never waits, and wakes nobody. All memory is taken before the first lock.
+    /// Gets the locks of these segments, each once, where all are free. Where one is not, it gives back those that it
+    /// got, and answers None. It never waits, and wakes nobody. All memory is taken before the first lock.
     ///
     /// # Errors
     ///
@@ -47,8 +47,8 @@ impl<D: Area + Drop> Node<D> {
         Ok(Some(Held { sides }))
     }
 
-    /// Gives the locks back as `release` does, but wakes nobody: for a node of which no thread waits for a segment. Who does may then
-    /// sleep for ever.
+    /// Gives the locks back as `release` does, but wakes nobody: for a node of which no thread waits for a segment. Who
+    /// does may then sleep for ever.
     pub fn release_silently(&self, held: Held<D>)
         requires { All (IsHeldOf self.now) held.sides.items }
     {
@@ -60,8 +60,8 @@ impl<D: Area + Drop> Node<D> {
         sides.destroy_empty();
     }
 
-    /// What `durable` answers, of a log whose lock the caller has: the receipt of the seat's last closed record, exactly where the
-    /// end that was published last has reached it. It takes no memory.
+    /// What `durable` answers, of a log whose lock the caller has: the receipt of the seat's last closed record,
+    /// exactly where the end that was published last has reached it. It takes no memory.
     pub fn durable_in(
         &self,
         seat: CommitSeat,
@@ -73,7 +73,8 @@ impl<D: Area + Drop> Node<D> {
         ensures idle { IsIdle (commit_view result.0) }
         ensures log { IsFlusherOf self.now.stage log.new.flusher × IsSameLog log.old log.new }
         ensures looks { Looks (published_end log.old) (commit_view seat) result.1 (commit_view result.0) }
-        ensures found { MatchOption result.1 (Learns (commit_view seat) (commit_view result.0)) (λ receipt. Receives (commit_view seat) receipt (commit_view result.0)) }
+        ensures found { MatchOption result.1 (Learns (commit_view seat) (commit_view result.0)) (λ receipt.
+            Receives (commit_view seat) receipt (commit_view result.0)) }
     {
         log.durable(&self.stage, seat)
     }
