@@ -1,5 +1,6 @@
 pub use Rattle.lc_recover.specs.Reads
 pub mod Files
+pub mod Folders
 pub mod SizeText
 pub mod Making
 pub mod Renewing

@@ -1,6 +1,8 @@
 //! The folder of a store.
-ghost use Rattle.std.specs.Prelude.{◌≡◌, true};
+ghost use Rattle.std.specs.Arc.{arc_value};
+ghost use Rattle.std.specs.Prelude.{◌≡◌, true, IfOk, string_bytes};
 ghost use Rattle.std.specs.Fs.{asks_create_new, asks_write};
+ghost use Rattle.lc_files.specs.Folders.{folder_path, folder_runtime};
 
 use crate::file_fault::{FaultPlace, FileFault};
 use crate::file_name::FileName;
@@ -45,8 +47,11 @@ impl<R: Drop> StoreFolder<R, String> {
     ///
     /// # Errors
     ///
-    /// Where there is no memory.
-    pub fn shared(alloc: Global, rt: R, path: &str) -> Result<SharedFolder<R>, AllocError> {
+    /// Only where there is no memory.
+    pub fn shared(alloc: Global, rt: R, path: &str) -> Result<SharedFolder<R>, AllocError>
+        ensures runtime { IfOk result (λ folder. folder_runtime (arc_value folder) ≡ rt) }
+        ensures path { IfOk result (λ folder. string_bytes (folder_path (arc_value folder)) ≡ path.now) }
+    {
         let path = String::from_str(alloc, path)?;
         Ok(Arc::new(alloc, StoreFolder::new(alloc, rt, path))?)
     }
@@ -54,7 +59,10 @@ impl<R: Drop> StoreFolder<R, String> {
 
 impl<R, P: AsPath> StoreFolder<R, P> {
     /// The folder at this path, of which nothing is asked yet.
-    pub fn new(alloc: Global, rt: R, path: P) -> StoreFolder<R, P> {
+    pub fn new(alloc: Global, rt: R, path: P) -> StoreFolder<R, P>
+        ensures runtime { folder_runtime result ≡ rt }
+        ensures path { folder_path result ≡ path }
+    {
         StoreFolder {
             alloc,
             rt,

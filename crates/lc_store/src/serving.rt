@@ -26,8 +26,9 @@ pub struct Serving<D: Area + Drop, G: Drop> {
     guard: G,
 }
 
-/// A running node on a store in a folder, which its areas own, so that threads of any life can have it: no other process opens
-/// the folder.
+/// A running node on a store in a folder, which no other process opens. Its areas own the folder, so it borrows nothing. Threads of a
+/// scope can have it by reference. A thread by `thread::spawn` needs it in an `Arc`; the borrow checker covers such a spawn in `main`
+/// alone.
 pub type FolderServing<R> = Serving<StoreArea<SharedFolder<R>>, <R as Files>::File>;
 
 impl<R: Files + Drop> Serving<StoreArea<SharedFolder<R>>, R::File>
