@@ -17,11 +17,5 @@ pub(crate) enum Fault {
     Output(io::Error),
     /// There was no memory, or no thread.
     #[error("out of memory or threads")]
-    NoMemory,
-}
-
-impl From<AllocError> for Fault {
-    fn from(_error: AllocError) -> Fault {
-        Fault::NoMemory
-    }
+    NoMemory(#[from] AllocError),
 }

@@ -2,28 +2,18 @@
 //! prints each reply as soon as it is durable.
 #![tactic(auto)]
 
-mod client;
+mod clients;
 mod fault;
 mod help;
-mod input_line;
-mod queues;
-mod reader;
-mod replies;
-mod reply;
+mod input;
 mod request;
-mod service;
 
 use fault::Fault;
-use help::HELP;
 use lc_files::StoreFolder;
 use lc_record::Geometry;
 use lc_store::Serving;
-use queues::Queues;
-use reader::read_lines;
-use service::serve;
 use std::alloc::AllocError;
 use std::process::ExitCode;
-use std::sync::Arc;
 use std::{env, io, thread};
 
 // The status where the arguments or a line is not understood.
@@ -40,19 +30,18 @@ fn main(rt: HostRuntime) -> io::Result<ExitCode> {
         return Ok(ExitCode::from(NOT_UNDERSTOOD));
     };
     if matches!(path.as_str(), "--help" | "-h") {
-        rt.print(HELP)?;
+        rt.print(help::HELP)?;
         return Ok(ExitCode::SUCCESS);
     }
-    let (queues, receivers) = Queues::open(alloc)?;
-    let queues = Arc::new(alloc, queues).map_err(AllocError::from)?;
-    let theirs = Arc::try_clone(&queues)?;
+    let (queues, receivers) = input::Queues::open(alloc)?;
+    let filled = queues.clone()?;
     // It is joined only after its end: a thread that waits for input cannot be stopped.
-    let reader = thread::spawn(&rt, move || read_lines(&rt, &theirs)).map_err(AllocError::from)?;
+    let reader = thread::spawn(&rt, move || filled.fill(&rt)).map_err(AllocError::from)?;
     let folder = StoreFolder::shared(alloc, rt, &path)?;
     // One node with 8 threads, one segment of 16 pages, and a log of 4096 words.
     let geometry = Geometry::new(1, 8, 1, 16, 4096).unwrap();
     let served = match Serving::open(alloc, &folder, geometry) {
-        Ok((serving, seat)) => serve(&rt, &serving.node, seat, &queues, receivers, reader),
+        Ok((serving, seat)) => clients::serve(&rt, &serving.node, seat, &queues, receivers, reader),
         Err(fault) => {
             if folder.fault().is_none() {
                 eprintln!(rt; "names: {path}: {fault}")?;

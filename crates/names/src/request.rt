@@ -1,9 +1,6 @@
 //! What clients ask, a line for each request.
-use crate::input_line::LONGEST_LINE;
+use crate::input::LONGEST_LINE;
 use lc_names::NameCommand;
-
-/// So many clients there are, numbered from 0.
-pub(crate) const CLIENTS: usize = 8;
 
 /// What a client asks, with the verb that it asks by.
 #[derive(Clone, Copy)]
@@ -14,11 +11,10 @@ pub(crate) struct Request<'a> {
 
 /// The client whose number a line begins with, before a blank.
 pub(crate) fn client_of(line: &[u8]) -> Option<usize> {
-    let [digit, b' ' | b'\t', ..] = line else {
-        return None;
-    };
-    let client = usize::from(digit.checked_sub(b'0')?);
-    (client < CLIENTS).then_some(client)
+    match line {
+        [digit @ b'0'..=b'7', b' ' | b'\t', ..] => Some(usize::from(*digit - b'0')),
+        _ => None,
+    }
 }
 
 /// The request of a line, after the number of its client.
