@@ -18,7 +18,7 @@ use std::rt::Files;
 // A running node has seats in place of numbered threads.
 const ANY_THREADS: u16 = 1;
 
-/// A store that is open as one running node, and what keeps other processes from it until this is dropped. This project's own.
+/// A store that is open as one running node, and what keeps other processes from it until this is dropped.
 #[derive(Drop)]
 pub struct Serving<D: Area + Drop, G: Drop> {
     /// The node, whose calls many threads make at once.
@@ -26,17 +26,18 @@ pub struct Serving<D: Area + Drop, G: Drop> {
     guard: G,
 }
 
-/// A running node on a store in a folder, which no other process opens. Its areas own the folder, so it borrows nothing. Threads of a
-/// scope can have it by reference. A thread by `thread::spawn` needs it in an `Arc`; the borrow checker covers such a spawn in `main`
-/// alone.
+/// A running node on a store in a folder, which no other process opens. Its areas own the folder, so it borrows
+/// nothing. Threads of a scope can have it by reference. A thread by `thread::spawn` needs it in an `Arc`; the borrow
+/// checker covers such a spawn in `main` alone.
 pub type FolderServing<R> = Serving<StoreArea<SharedFolder<R>>, <R as Files>::File>;
 
 impl<R: Files + Drop> Serving<StoreArea<SharedFolder<R>>, R::File>
 where
     R::File: SharedFile,
 {
-    /// Opens the store of this size that is in the folder, recovers it, and lets its node run; with the first seat, which a
-    /// thread gives to each of its transactions. Where the store has several nodes this is the first of them, with all segments.
+    /// Opens the store of this size that is in the folder, recovers it, and lets its node run; with the first seat,
+    /// which a thread gives to each of its transactions. Where the store has several nodes this is the first of them,
+    /// with all segments.
     ///
     /// # Errors
     ///
@@ -46,7 +47,8 @@ where
         folder: &SharedFolder<R>,
         geometry: Geometry,
     ) -> Result<(FolderServing<R>, CommitSeat), StoreOpenFault>
-        ensures seat { IfOk result (λ made. IsSeatOf made.0.node.stage made.1 × (commit_view made.1 ≡ newcomer geometry.words)) }
+        ensures seat { IfOk result (λ made. IsSeatOf made.0.node.stage made.1
+            × (commit_view made.1 ≡ newcomer geometry.words)) }
         ensures number { IfOk result (λ made. made.0.node.number ≡ 0) }
         ensures room { IfOk result (λ made. made.0.node.stage.room ≡ geometry.words) }
         ensures segments { IfOk result (λ made. length made.0.node.segments.items ≡ geometry.segments) }
@@ -60,8 +62,8 @@ where
         }
     }
 
-    /// Opens the store that is in the folder, of the size that its own file says, or, where there is none, the lengths of its files tell.
-    /// Else as `open`.
+    /// Opens the store that is in the folder, of the size that its own file says, or, where there is none, the lengths
+    /// of its files tell. Else as `open`.
     ///
     /// # Errors
     ///
@@ -70,7 +72,8 @@ where
         alloc: Global,
         folder: &SharedFolder<R>,
     ) -> Result<(FolderServing<R>, CommitSeat), StoreOpenFault>
-        ensures seat { IfOk result (λ made. IsSeatOf made.0.node.stage made.1 × (commit_view made.1 ≡ newcomer made.0.node.stage.room)) }
+        ensures seat { IfOk result (λ made. IsSeatOf made.0.node.stage made.1
+            × (commit_view made.1 ≡ newcomer made.0.node.stage.room)) }
         ensures number { IfOk result (λ made. made.0.node.number ≡ 0) }
         ensures bad_threads { result ≢ Err StoreOpenFault.BadThreads }
     {

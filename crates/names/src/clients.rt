@@ -18,8 +18,8 @@ use std::thread::{self, JoinHandle, Threads};
 // The bytes of the table: 16 pages of 256.
 const TABLE: u32 = 16 * 256;
 
-// A client: its number, what its thread commits with, and what came of all clients: whether each line was understood that was
-// replied to, or what failed last. Who prints has that.
+// A client: its number, what its thread commits with, and what came of all clients: whether each line was understood
+// that was replied to, or what failed last. Who prints has that.
 #[derive(Drop)]
 struct Client<'a, R, D: Area + Drop> {
     rt: &'a R,
