@@ -6,6 +6,8 @@ mod committers;
 #[cfg(test)]
 mod ends;
 #[cfg(test)]
+mod nonblocking;
+#[cfg(test)]
 mod rooms;
 #[cfg(test)]
 mod services;

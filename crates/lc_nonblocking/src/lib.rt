@@ -1,0 +1,14 @@
+//! A running node whose calls never wait: each answers what the node's own call says, or that a lock was not free.
+#![tactic(auto)]
+
+mod committing;
+mod flushing;
+mod no_gate;
+mod nonblocking_node;
+mod seating;
+mod settling;
+mod truncating;
+mod try_fault;
+
+pub use nonblocking_node::NonblockingNode;
+pub use try_fault::TryFault;
