@@ -13,14 +13,15 @@ use lc_stage::CommitSeat;
 use std::alloc::Global;
 
 impl<D: Area + Drop> NonblockingNode<D> {
-    /// Runs the work in a transaction on these segments, whose locks it gets in ascending order, closes its record in the stage, with
-    /// so many tries for a place, and gives the locks back; false where nothing was set. The record is stable once a flush has made
-    /// it so. A work that only reads, as `Get`, makes none. Where a lock is not free, those that it got are given back, and the work
-    /// does not run.
+    /// Runs the work in a transaction on these segments, whose locks it gets in ascending order, closes its record in
+    /// the stage, with so many tries for a place, and gives the locks back; false where nothing was set. The record is
+    /// stable once a flush has made it so. A work that only reads, as `Get`, makes none. Where a lock is not free,
+    /// those that it got are given back, and the work does not run.
     ///
     /// # Errors
     ///
-    /// `Busy`. `Refused`: those of `Node::hold` and of `Held::commit`. Then the work is undone, and the seat has at most seen a tail.
+    /// `Busy`. `Refused`: those of `Node::hold` and of `Held::commit`. Then the work is undone, and the seat has at
+    /// most seen a tail.
     pub fn commit<W: Work>(
         &self,
         alloc: Global,
@@ -34,7 +35,8 @@ impl<D: Area + Drop> NonblockingNode<D> {
         requires tries { 0 < tries }
         ensures own { IsSeatOf self.now.stage seat.new }
         ensures idle { IsIdle (commit_view seat.new) }
-        ensures commits { Tried (CommitsAmong self.now (W.ran work.old work.new) segments.now tries (commit_view seat.old) (commit_view seat.new)) result }
+        ensures commits { Tried (CommitsAmong self.now (W.ran work.old work.new) segments.now tries
+            (commit_view seat.old) (commit_view seat.new)) result }
         ensures busy { result ≡ Err Busy → (seat.new ≡ seat.old) × (work.new ≡ work.old) }
     {
         let mut held = match self.node.try_hold(alloc, segments) {

@@ -11,8 +11,8 @@ impl<D: Area + Drop> NonblockingNode<D> {
     ///
     /// # Errors
     ///
-    /// `Busy` where the lock of the log is not free. `Refused`: `Halted` where a device failed before, and `DeviceFault` where it
-    /// fails now.
+    /// `Busy` where the lock of the log is not free. `Refused`: `Halted` where a device failed before, and
+    /// `DeviceFault` where it fails now.
     pub fn flush(&self) -> Result<u64, TryFault>
         ensures flushed { IfOk result (λ count. HasFlushed self.now count) }
         ensures refused { IfErr result (IsRefused (HasNotFlushed D.Area self.now)) }

@@ -7,8 +7,9 @@ use lc_node::Node;
 use lc_record::Geometry;
 use std::marker::Model;
 
-/// A running node whose calls never wait. It owns the node and lends no reference to it, so nobody sleeps at its locks: it gives
-/// them back and wakes nobody. A call whose lock is not free is refused as `Busy`. Contracts see the node. This project's own.
+/// A running node whose calls never wait. It owns the node and lends no reference to it, so nobody sleeps at its locks:
+/// it gives them back and wakes nobody. A call whose lock is not free is refused as `Busy`. Contracts see the node.
+/// This project's own.
 #[derive(Drop)]
 pub struct NonblockingNode<D: Area + Drop> {
     pub(crate) node: Node<D>,
@@ -23,7 +24,8 @@ impl<D: Area + Drop> Model for NonblockingNode<D> {
 }
 
 impl<D: Area + Drop> NonblockingNode<D> {
-    /// The node, from now on without waiting. Where a lock of it is still out, each call that wants it is refused as `Busy`.
+    /// The node, from now on without waiting. Where a lock of it is still out, each call that wants it is refused as
+    /// `Busy`.
     pub fn new(node: Node<D>) -> NonblockingNode<D>
         ensures { result ≡ node }
     {
@@ -45,7 +47,8 @@ impl<D: Area + Drop> NonblockingNode<D> {
         self.node.geometry()
     }
 
-    /// Whether a call of a device has failed: each commit and each flush is refused then, as `Halted`, until a recovery. One load.
+    /// Whether a call of a device has failed: each commit and each flush is refused then, as `Halted`, until a
+    /// recovery. One load.
     pub fn is_halted(&self) -> bool
         ensures { IsTrue result → HasHalted D }
     {

@@ -10,7 +10,8 @@ use lc_disk::Area;
 use lc_stage::{CommitSeat, Receipt};
 
 impl<D: Area + Drop> NonblockingNode<D> {
-    /// The receipt of the seat's last closed record, exactly where the published end has reached it. It takes no memory.
+    /// The receipt of the seat's last closed record, exactly where the published end has reached it. It takes no
+    /// memory.
     ///
     /// # Errors
     ///
@@ -21,7 +22,9 @@ impl<D: Area + Drop> NonblockingNode<D> {
         ensures own { IsSeatOf self.now.stage result.0 }
         ensures idle { IsIdle (commit_view result.0) }
         ensures looks { IfOk result.1 (λ found. LooksIn self.now (commit_view seat) found (commit_view result.0)) }
-        ensures found { IfOk result.1 (λ found. MatchOption found (Learns (commit_view seat) (commit_view result.0)) (λ receipt. Receives (commit_view seat) receipt (commit_view result.0))) }
+        ensures found { IfOk result.1 (λ found.
+            MatchOption found (Learns (commit_view seat) (commit_view result.0)) (λ receipt.
+            Receives (commit_view seat) receipt (commit_view result.0))) }
         ensures busy { IfErr result.1 (λ fault. (fault ≡ Busy) × (result.0 ≡ seat)) }
     {
         let lock = self.node.log_lock();

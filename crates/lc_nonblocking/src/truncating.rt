@@ -2,7 +2,8 @@
 ghost use Rattle.std.specs.Prelude.{All, IfErr, IfOk};
 ghost use Rattle.lc_node.specs.Held.{IsHeldOf};
 ghost use Rattle.lc_node.specs.Logs.{IsLogOf};
-ghost use Rattle.lc_node.specs.Truncates.{HasNotTruncated, HasTruncated, IsOfTruncation, IsUntruncatedHeld, TruncatesHeld};
+ghost use Rattle.lc_node.specs.Truncates.{HasNotTruncated, HasTruncated, IsOfTruncation, IsUntruncatedHeld};
+ghost use Rattle.lc_node.specs.Truncates.{TruncatesHeld};
 ghost use Rattle.lc_nonblocking.specs.Trying.{IsRefused};
 
 use crate::{NonblockingNode, TryFault};
@@ -17,8 +18,9 @@ const SEGMENTS: [u32; MAX_SEGMENT as usize] = [
 ];
 
 impl<D: Area + Drop> NonblockingNode<D> {
-    /// Empties the log, as `Node::truncate` does, where the lock of the log and those of all segments are free. Answers the round that
-    /// the log is in then: where it has no record after the flush, the present one. All memory is taken before anything is changed.
+    /// Empties the log, as `Node::truncate` does, where the lock of the log and those of all segments are free. Answers
+    /// the round that the log is in then: where it has no record after the flush, the present one. All memory is taken
+    /// before anything is changed.
     ///
     /// # Errors
     ///
@@ -73,8 +75,10 @@ impl<D: Area + Drop> NonblockingNode<D> {
         requires held { All (IsHeldOf self.now) held.old.sides.items }
         ensures own { IsLogOf self.now log.new }
         ensures held { All (IsHeldOf self.now) held.new.sides.items }
-        ensures truncated { IfOk result (λ round. TruncatesHeld D.Area self.now held.old.sides.items round held.new.sides.items) }
-        ensures refused { IfErr result (λ fault. IsUntruncatedHeld D.Area self.now held.old.sides.items fault held.new.sides.items) }
+        ensures truncated { IfOk result (λ round.
+            TruncatesHeld D.Area self.now held.old.sides.items round held.new.sides.items) }
+        ensures refused { IfErr result (λ fault.
+            IsUntruncatedHeld D.Area self.now held.old.sides.items fault held.new.sides.items) }
     {
         self.node.truncate_in(alloc, log, held)
     }

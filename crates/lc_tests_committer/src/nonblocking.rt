@@ -123,8 +123,8 @@ struct Caller<'a> {
     ghost idle: { IsIdle (commit_view seat) },
 }
 
-// Commits so many records, each as soon as no lock is in its way, and flushes after each if it can. Answers how many records its
-// flushes made stable.
+// Commits so many records, each as soon as no lock is in its way, and flushes after each if it can. Answers how many
+// records its flushes made stable.
 fn commit_all<R: Wait>(rt: &R, alloc: Global, caller: Caller, offset: u32) -> u64 {
     let Caller { node, mut seat } = caller;
     let mut put = Put {
