@@ -1,9 +1,16 @@
-use Rattle.std.proofs.Common.{◌≡◌, ◌⊎◌, inl, inr, ⊎_elim, subst}
+use Rattle.std.proofs.Common.{◌≡◌, ◌⊎◌, All, inl, inr, ⊎_elim, sym, subst}
 use Rattle.std.specs.Prelude.{IfErr, IfOk}
 use Rattle.std.proofs.lemmas.Result.{IfErr-weaker as if_err, IfOk-weaker as if_ok}
+use Rattle.lc_node.specs.Held.{IsHeldOf}
 use Rattle.lc_node.specs.Truncates.{IsUntruncatedHeld, IsUntruncatedInRoom, TruncatesAlone, TruncatesHeld}
 use Rattle.lc_node.specs.declared.node_fault.NodeFault.TheVariants.{NoMemory}
 use Rattle.lc_nonblocking.proofs.nonblocking_node.NonblockingNode.truncate_held.Goals as goal
+
+pub truncate_in-requires-clause-held : goal.truncate_in-requires-clause-held
+truncate_in-requires-clause-held g c = subst (λ n. All (IsHeldOf n) c.args.held.now.sides.items) (sym c.self.view_is) c.requires.held
+
+pub returns-clause-held : goal.returns-clause-held
+returns-clause-held g c = subst (λ n. All (IsHeldOf n) c.truncate_in.new.held.sides.items) c.self.view_is c.truncate_in.ensures.held
 
 pub returns-clause-truncated : goal.returns-clause-truncated
 returns-clause-truncated g c = let node = c.args.self.now in let old = c.args.log.now in let new = c.truncate_in.new.log in
