@@ -7,15 +7,17 @@ use lc_node::{Get, NodeFault, Put};
 use lc_nonblocking::{NonblockingNode, TryFault};
 use lc_stage::CommitSeat;
 use std::alloc::Global;
-use std::sync::Wait;
 use std::test::*;
-use std::thread::{join, yield_now};
 
 // Tries enough for any test.
 const TRIES: u32 = 1000;
 
-// Records that each of two threads makes. They take less than the log has.
-const RECORDS: u64 = 200;
+// Its record has 57 words, seven of them beside the bytes. The least log has 64.
+const LARGE: Put<'static> = Put {
+    segment: 1,
+    offset: 0,
+    bytes: &[7; 400],
+};
 
 // The five bytes that `HELLO` changes.
 fn read(
@@ -72,17 +74,16 @@ fn what_is_refused_changes_nothing(rt: HostRuntime) -> Result<(), Fail> {
     assert!(rt; outside == Err(TryFault::Refused(NodeFault::NotHere { segment: 3 })));
     let unlocked = node.commit(alloc, &mut seat, &[2], &mut work, TRIES);
     assert!(rt; unlocked == Err(TryFault::Refused(NodeFault::NotLocked)));
-    for _ in 0..8 {
-        assert!(rt; node.commit(alloc, &mut seat, &[1], &mut work, TRIES) == Ok(true));
-    }
+    let mut large = LARGE;
+    assert!(rt; node.commit(alloc, &mut seat, &[1], &mut large, TRIES) == Ok(true));
     let full = node.commit(alloc, &mut seat, &[1], &mut work, TRIES);
     assert!(rt; matches!(full, Err(TryFault::Refused(NodeFault::Full { .. }))));
-    assert!(rt; node.flush() == Ok(8) && node.truncate(alloc) == Ok(1));
+    assert!(rt; node.flush() == Ok(1) && node.truncate(alloc) == Ok(1));
     assert!(rt; node.commit(alloc, &mut seat, &[1], &mut work, TRIES) == Ok(true));
     Ok(())
 }
 
-// The lock of the log, or that of a segment, is out while a node begins to wait no more.
+// The lock of a segment is out while the node begins to wait no more.
 #[test]
 fn a_call_whose_lock_is_out_is_busy(rt: HostRuntime) -> Result<(), Fail> {
     let alloc = rt.alloc();
@@ -98,76 +99,5 @@ fn a_call_whose_lock_is_out_is_busy(rt: HostRuntime) -> Result<(), Fail> {
     node.release(held);
     assert!(rt; both == Err(TryFault::Busy) && truncated == Err(TryFault::Busy));
     assert!(rt; first == Ok(true) && flushed == Ok(1));
-
-    let (log, loan) = node.log_lock().lock(&rt);
-    let node = NonblockingNode::new(node);
-    let flushed = node.flush();
-    let truncated = node.truncate(alloc);
-    let (seat, durable) = node.durable(seat);
-    let mut seat = seat;
-    let both = node.commit(alloc, &mut seat, &[1, 2], &mut work, TRIES);
-    let node = node.into_inner();
-    node.log_lock().unlock(log, loan);
-    assert!(rt; flushed == Err(TryFault::Busy) && truncated == Err(TryFault::Busy));
-    assert!(rt; matches!(durable, Err(TryFault::Busy)) && both == Ok(true));
-    assert!(rt; node.flush(&rt) == Ok(1));
-    Ok(())
-}
-
-// A thread that commits on a node which never waits.
-#[derive(Drop)]
-struct Caller<'a> {
-    node: &'a NonblockingNode<MemArea>,
-    seat: CommitSeat,
-    ghost own: { IsSeatOf node.now.stage seat },
-    ghost idle: { IsIdle (commit_view seat) },
-}
-
-// Commits so many records, each as soon as no lock is in its way, and flushes after each if it can. Answers how many
-// records its flushes made stable.
-fn commit_all<R: Wait>(rt: &R, alloc: Global, caller: Caller, offset: u32) -> u64 {
-    let Caller { node, mut seat } = caller;
-    let mut put = Put {
-        segment: 1,
-        offset,
-        bytes: b"+",
-    };
-    let mut missing = RECORDS;
-    let mut flushed = 0u64;
-    for _ in rt.forever() {
-        if missing == 0 {
-            break;
-        }
-        match node.commit(alloc, &mut seat, &[1], &mut put, TRIES) {
-            Ok(true) => missing -= 1,
-            _ => yield_now(),
-        }
-        if let Ok(count) = node.flush() {
-            flushed = flushed.saturating_add(count);
-        }
-    }
-    flushed
-}
-
-#[test]
-fn threads_that_never_wait_lose_no_record(rt: HostRuntime) -> Result<(), Fail> {
-    let alloc = rt.alloc();
-    let (node, mut seat) = opened(alloc, MANY_WORDS)?;
-    let node = NonblockingNode::new(node);
-    let other = node.split(&mut seat);
-    let shared = &node;
-    let host = &rt;
-    let first = Caller { node: shared, seat };
-    let second = Caller {
-        node: shared,
-        seat: other,
-    };
-    let (one, two) = join(
-        &rt,
-        || commit_all(host, alloc, first, 0),
-        || commit_all(host, alloc, second, 1),
-    );
-    let rest = node.flush().expect(&rt, "no thread has the log");
-    assert!(rt; one.saturating_add(two).saturating_add(rest) == 2 * RECORDS);
     Ok(())
 }
