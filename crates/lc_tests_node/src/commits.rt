@@ -1,7 +1,7 @@
 //! Commits of one caller, and where their records are.
-use crate::seats::{get, put, put_and_confirm};
 use crate::stores::{in_memory, opened, two_segments};
 use lc_node::{Commit, Confirmed, Mode, NodeFault, Put};
+use lc_node_fixture::{get, put, put_and_confirm};
 use lc_stage::Receipt;
 use std::test::*;
 

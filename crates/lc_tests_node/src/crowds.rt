@@ -2,11 +2,10 @@
 ghost use Rattle.lc_stage.specs.Seats.{commit_view, IsSeatOf, IsIdle};
 
 use crate::expect::equal;
-use crate::seats::{Open, TRIES, confirm, get};
-use crate::shared::{SharedArea, Shelf};
-use crate::stores::{in_memory, opened, recovered, two_segments};
+use crate::stores::{in_memory, opened, two_segments};
 use lc_disk::Area;
 use lc_node::{Commit, Confirmed, Mode, Node, Put};
+use lc_node_fixture::{Open, SharedArea, Shelf, TRIES, confirm, get, recovered};
 use lc_stage::{CommitSeat, Receipt};
 use std::alloc::{AllocError, Global};
 use std::process::Abort;

@@ -3,11 +3,10 @@ ghost use Rattle.std.specs.Prelude.{IfOk};
 ghost use Rattle.lc_disk.specs.When.{IsCountable};
 ghost use Rattle.lc_stage.specs.Seats.{commit_view, IsSeatOf, IsIdle};
 
-use crate::seats::put;
-use crate::shared::Shelf;
-use crate::stores::{LOG_BYTES, SEGMENT_BYTES, in_memory, opened, recovered, two_segments};
+use crate::stores::{in_memory, opened, two_segments};
 use lc_disk::{Area, Fuse, MemArea, When};
 use lc_node::{Commit, Mode, Node, NodeFault, Put};
+use lc_node_fixture::{LOG_BYTES, SEGMENT_BYTES, Shelf, put, recovered};
 use lc_stage::CommitSeat;
 use std::alloc::Global;
 use std::sync::Wait;

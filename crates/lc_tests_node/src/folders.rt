@@ -1,6 +1,6 @@
 //! Stores in files.
-use crate::stores::{LOG_BYTES, SEGMENT_BYTES};
 use lc_disk::FileArea;
+use lc_node_fixture::{LOG_BYTES, SEGMENT_BYTES};
 use std::string::String;
 use std::test::Fail;
 use std::{env, fs, process};

@@ -1,10 +1,10 @@
 //! A commit that is held between its reservation and its closing.
 ghost use Rattle.lc_stage.specs.Seats.{commit_view, IsSeatOf, IsIdle};
 
-use crate::seats::{TRIES, put};
 use crate::stores::{in_memory, opened, two_segments};
 use lc_disk::Area;
 use lc_node::{Commit, Gate, Mode, Node, Put};
+use lc_node_fixture::{TRIES, put};
 use lc_stage::{CommitSeat, Receipt};
 use std::alloc::Global;
 use std::sync::Wait;

@@ -3,10 +3,10 @@ ghost use Rattle.std.specs.Prelude.{◌≡◌, IfOk};
 ghost use Rattle.lc_record.specs.Geometry.{HasNumbers};
 
 use crate::expect::equal;
-use crate::seats::{Open, TRIES, confirm, put};
-use crate::stores::{LOG_BYTES, SEGMENT_BYTES, WORDS, in_memory, opened, two_segments};
+use crate::stores::{in_memory, opened, two_segments};
 use lc_disk::{Area, MemArea};
 use lc_node::{Commit, Confirmed, Get, Mode, Node, NodeFault, Put};
+use lc_node_fixture::{LOG_BYTES, Open, SEGMENT_BYTES, TRIES, WORDS, confirm, put};
 use lc_record::{Geometry, View};
 use std::alloc::Global;
 use std::sync::Wait;

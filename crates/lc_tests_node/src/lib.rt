@@ -2,18 +2,6 @@
 #![tactic(auto)]
 
 #[cfg(test)]
-mod act;
-#[cfg(test)]
-mod both;
-#[cfg(test)]
-mod changed_parts;
-#[cfg(test)]
-mod changing;
-#[cfg(test)]
-mod clusters;
-#[cfg(test)]
-mod coming_up;
-#[cfg(test)]
 mod commits;
 #[cfg(test)]
 mod crowds;
@@ -32,15 +20,7 @@ mod openings;
 #[cfg(test)]
 mod outside;
 #[cfg(test)]
-mod pair;
-#[cfg(test)]
 mod restarts;
-#[cfg(test)]
-mod rings;
-#[cfg(test)]
-mod seats;
-#[cfg(test)]
-mod shared;
 #[cfg(test)]
 mod stores;
 #[cfg(test)]

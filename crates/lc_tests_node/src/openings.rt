@@ -1,12 +1,12 @@
 //! Stores in folders that are opened by one call.
 use crate::expect::holds;
 use crate::folders::{made, new_folder};
-use crate::seats::put;
-use crate::stores::{LOG_BYTES, two_segments};
+use crate::stores::two_segments;
 use lc_core::{Refusal, World};
 use lc_disk::{FileArea, Stoppable};
 use lc_files::{FileName, FolderFault, Misfit, StoreFolder};
 use lc_node::{Commit, Mode, Put};
+use lc_node_fixture::{LOG_BYTES, put};
 use lc_record::Geometry;
 use lc_store::{Serving, Store, StoreOpenFault};
 use std::fs;

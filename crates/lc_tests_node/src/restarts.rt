@@ -1,8 +1,8 @@
 //! A node over a store that holds what another one committed.
 use crate::folders::{made, new_folder, reopened};
-use crate::seats::{get, put, put_and_confirm};
-use crate::stores::{opened, recovered, two_segments};
+use crate::stores::{opened, two_segments};
 use lc_node::{Commit, Confirmed, Mode, Put};
+use lc_node_fixture::{get, put, put_and_confirm, recovered};
 use std::fs;
 use std::test::*;
 

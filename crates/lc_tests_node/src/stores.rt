@@ -1,49 +1,21 @@
-//! Stores that were recovered.
+//! Stores of one node.
 ghost use Rattle.std.specs.Prelude.{◌≡◌, IfOk};
 ghost use Rattle.lc_record.specs.Geometry.{HasNumbers};
-ghost use Rattle.lc_recover.specs.Reads.{HaveLengths};
-ghost use Rattle.lc_recover.specs.Recovered.{AreFinished};
 ghost use Rattle.lc_stage.specs.Seats.{commit_view, IsSeatOf, IsIdle};
 
 use lc_disk::{Area, MemArea};
 use lc_node::Node;
+use lc_node_fixture::{LOG_BYTES, SEGMENT_BYTES, WORDS, recovered};
 use lc_record::Geometry;
-use lc_recover::Recovered;
 use lc_stage::CommitSeat;
-use lc_store::recovered_on;
 use std::alloc::Global;
 use std::test::Fail;
-
-/// The bytes of a log's area.
-pub(crate) const LOG_BYTES: usize = 8 * (WORDS as usize + 1);
-
-/// The bytes of the area of a segment of two pages.
-pub(crate) const SEGMENT_BYTES: usize = 2 * 544;
-
-/// The words of a log.
-pub(crate) const WORDS: u32 = 4096;
 
 /// One node, two segments of two pages.
 pub(crate) fn two_segments() -> Result<Geometry, Fail>
     ensures { IfOk result (λ g. HasNumbers g 1 1 2 2 4096) }
 {
     Ok(Geometry::new(1, 1, 2, 2, WORDS).ok_or("these numbers are a geometry")?)
-}
-
-/// The store of these areas, recovered.
-pub(crate) fn recovered<D: Area + Drop>(
-    alloc: Global,
-    geometry: Geometry,
-    areas: Vec<D>,
-) -> Result<Recovered<D>, Fail>
-    ensures geometry { IfOk result (λ r. r.geometry ≡ geometry) }
-    ensures lengths { IfOk result (λ r. HaveLengths D.Area r.geometry r.areas) }
-    ensures finished { IfOk result (AreFinished D.Area) }
-{
-    match recovered_on(alloc, geometry, areas) {
-        Ok(recovered) => Ok(recovered),
-        Err(_) => Err(Fail::from("the recovery ends")),
-    }
 }
 
 /// A node over the store of these areas, and its first seat.

@@ -1,5 +1,0 @@
-use Rattle.lc_node.specs.Cluster.{IsSeatAt}
-use Rattle.lc_tests_node.proofs.clusters.put_often.Given as goal
-
-abbrev pub invariant-loop : goal.invariant-loop
-invariant-loop g l = IsSeatAt l.cluster l.node l.seat
