@@ -9,7 +9,6 @@ use std::marker::Model;
 
 /// A running node whose calls never wait. It owns the node and lends no reference to it, so nobody sleeps at its locks:
 /// it gives them back and wakes nobody. A call whose lock is not free is refused as `Busy`. Contracts see the node.
-/// This project's own.
 #[derive(Drop)]
 pub struct NonblockingNode<D: Area + Drop> {
     pub(crate) node: Node<D>,

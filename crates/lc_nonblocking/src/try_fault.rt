@@ -2,7 +2,7 @@
 use lc_node::NodeFault;
 use thiserror::Error;
 
-/// Why a call that never waits is refused. This project's own.
+/// Why a call that never waits is refused.
 #[derive(Clone, Copy, Debug, PartialEq, Eq, Error)]
 pub enum TryFault {
     /// A lock was not free, and nothing has changed.
