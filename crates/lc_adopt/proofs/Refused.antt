@@ -8,7 +8,7 @@ use Rattle.lc_rest.specs.declared.adopt_fault.AdoptFault.{AdoptFault}
 use Rattle.lc_rest.specs.declared.adopt_fault.AdoptFault.TheVariants.{Mismatch as Disagrees, NoMemory as LacksMemory, DeviceFault as Fails}
 use Rattle.lc_rest.specs.declared.cluster_part.ClusterPart.{ClusterPart}
 use Rattle.lc_rest.specs.declared.parts.Parts.{Parts}
-use Rattle.lc_node.specs.Fault.{of_adoption}
+use Rattle.lc_segments.specs.Fault.{of_adoption}
 use Rattle.lc_adopt.specs.Refusals.{StopsAdoption}
 
 -- a refusal of an adoption names a part of the cluster, which fails, or a call that failed, or there is no memory

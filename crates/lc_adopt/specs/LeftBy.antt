@@ -9,7 +9,7 @@ use Rattle.lc_rest.specs.declared.node_part.NodePart.{NodePart}
 use Rattle.lc_rest.specs.declared.parts.Parts.{Parts}
 use Rattle.lc_core.specs.Adoption.{IsAdoption}
 use Rattle.lc_core.specs.declared.world.World.{World}
-use Rattle.lc_node.specs.LeftBy.{AreReceived}
+use Rattle.lc_log_side.specs.LeftBy.{AreReceived}
 
 module _ {D : Type 0} (a : Ghosts D) where
   -- the store is what the parts of a cluster of this geometry make, each of which is as its types keep it; there are as many lists of

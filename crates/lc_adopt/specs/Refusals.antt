@@ -6,8 +6,8 @@ use Rattle.lc_rest.specs.AtRest.{FailsFirst, HasPart}
 use Rattle.lc_rest.specs.Parts.{AreHonest, AreKept, FailsOnce}
 use Rattle.lc_rest.specs.declared.parts.Parts.{Parts}
 use Rattle.lc_node.specs.Refusals.{StopsParts}
-use Rattle.lc_node.specs.declared.node_fault.NodeFault.{NodeFault}
-use Rattle.lc_node.specs.declared.node_fault.NodeFault.TheVariants.{DeviceFault, Mismatch, NoMemory}
+use Rattle.lc_segments.specs.declared.node_fault.NodeFault.{NodeFault}
+use Rattle.lc_segments.specs.declared.node_fault.NodeFault.TheVariants.{DeviceFault, Mismatch, NoMemory}
 
 module _ {D : Type 0} (a : Ghosts D) where
   -- why no store is made of these parts: one that the cluster has does not agree, while the areas are honest the first whose test

@@ -1,12 +1,13 @@
 //! A cluster whose threads have ended becomes a store.
 ghost use Rattle.std.specs.Prelude.{IfErr, IfOk};
-ghost use Rattle.lc_node.specs.LeftBy.{AreOwnSeats};
+ghost use Rattle.lc_cluster.specs.LeftBy.{AreOwnSeats};
 ghost use Rattle.lc_adopt.specs.LeftBy.{IsLeftBy};
 ghost use Rattle.lc_adopt.specs.Refusals.{StopsCluster};
 
+use lc_cluster::Cluster;
 use lc_core::World;
 use lc_disk::Area;
-use lc_node::{Cluster, NodeFault};
+use lc_node::NodeFault;
 use lc_stage::CommitSeat;
 use std::alloc::Global;
 use std::sync::Wait;

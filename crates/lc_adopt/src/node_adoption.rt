@@ -1,6 +1,6 @@
 //! A node that ran alone becomes a store, once its threads have ended.
 ghost use Rattle.std.specs.Prelude.{◌≡◌, All, IfErr, IfOk, [], ◌∷◌, true};
-ghost use Rattle.lc_node.specs.LeftBy.{IsIdleSeatOf};
+ghost use Rattle.lc_log_side.specs.LeftBy.{IsIdleSeatOf};
 ghost use Rattle.lc_adopt.specs.LeftBy.{IsLeftBy};
 ghost use Rattle.lc_adopt.specs.Refusals.{StopsCluster};
 

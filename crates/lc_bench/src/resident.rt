@@ -1,14 +1,15 @@
 //! How much of the program's memory is resident while commits go on for long.
 ghost use Rattle.std.specs.Prelude.{◌≡◌, ◌+◌, ◌<◌, ℕ, IfOk, Some, length, slice_get};
 ghost use Rattle.lc_stage.specs.declared.seats.CommitSeat.{CommitSeat as Seat};
-ghost use Rattle.lc_node.specs.Cluster.{IsSeatAt};
+ghost use Rattle.lc_cluster.specs.Cluster.{IsSeatAt};
 ghost use Rattle.lc_stage.specs.Seats.{commit_view, IsSeatOf, IsIdle};
 
 use crate::committing::put;
 use crate::measurement::{End, Measurement, Places, Subject, Timed, Transaction};
 use crate::nodes::{Running, recovered};
+use lc_cluster::Cluster;
 use lc_disk::{Area, MemArea};
-use lc_node::{Cluster, Mode, Node, Pumped};
+use lc_node::{Mode, Node, Pumped};
 use lc_recover::zero_areas;
 use lc_stage::CommitSeat;
 use std::alloc::Global;

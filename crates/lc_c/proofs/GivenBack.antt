@@ -1,7 +1,7 @@
 -- Pieces are given back one by one.
 use Rattle.std.proofs.Common.{◌≡◌, ℕ, ◌+◌, ◌<◌, ◌≤◌, true, List, [], ◌∷◌, length, drop, refl, sym, subst}
 use Rattle.std.specs.Prelude.{Result, Ok, Err, remove, slice_index_or}
-use Rattle.lc_core.specs.declared.call_fault.CallFault.{CallFault}
+use Rattle.lc_events.specs.declared.call_fault.CallFault.{CallFault}
 use Rattle.lc_c.specs.SuspendedTransactions.{is_of}
 use Rattle.lc_c.specs.Restores.{GivesBack, Restores, RestoresIf}
 use Rattle.lc_c.specs.SessionState.{SessionStore}

@@ -11,7 +11,7 @@ use Rattle.lc_model.specs.declared.reply.Reply.TheVariants.{Refused}
 use Rattle.lc_core.proofs.Replying.{steps_of}
 use Rattle.lc_core.specs.Answered.{ComesTo}
 use Rattle.lc_core.specs.Calls.{CallsArea, KeepsAreas}
-use Rattle.lc_core.specs.MayReply.{may_reply}
+use Rattle.lc_events.specs.MayReply.{may_reply}
 use Rattle.lc_core.specs.Faults.{CountsPhase, phase_failures}
 use Rattle.lc_core.specs.Geometries.{RefusesOutside, phase_geometry}
 use Rattle.lc_core.specs.Lives.{Anyhow, StillLives}

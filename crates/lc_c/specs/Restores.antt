@@ -2,10 +2,11 @@
 use Rattle.std.specs.Prelude.{◌≡◌, ℕ, Bool, true, false, List, [], ◌∷◌, Result, Ok, Err}
 use Rattle.lc_model.specs.declared.event.Event.TheVariants.{SetRange, Write}
 use Rattle.lc_model.specs.declared.refusal.Refusal.{Refusal}
-use Rattle.lc_core.specs.Answered.{ComesTo, done, range_set}
+use Rattle.lc_core.specs.Answered.{ComesTo}
+use Rattle.lc_events.specs.Answered.{done, range_set}
 use Rattle.lc_core.specs.Truncating.{StepsTo}
-use Rattle.lc_core.specs.declared.call_fault.CallFault.{CallFault}
-use Rattle.lc_core.specs.declared.call_fault.CallFault.TheVariants.{Refused as IsRefused}
+use Rattle.lc_events.specs.declared.call_fault.CallFault.{CallFault}
+use Rattle.lc_events.specs.declared.call_fault.CallFault.TheVariants.{Refused as IsRefused}
 use Rattle.lc_c.specs.SuspendedTransactions.{is_of}
 use Rattle.lc_c.specs.SessionState.{SessionStore, refusal_of}
 use Rattle.lc_c.specs.contracts.mirror_area.MirrorAreaArea.TheImpl.{ghosts}

@@ -4,8 +4,8 @@ use Rattle.lc_model.specs.declared.event.Event.TheVariants.{Abort, Begin}
 use Rattle.lc_model.specs.declared.refusal.Refusal.{Refusal}
 use Rattle.lc_model.specs.declared.reply.Reply.{Reply}
 use Rattle.lc_core.specs.Truncating.{StepsTo}
-use Rattle.lc_core.specs.declared.call_fault.CallFault.{CallFault}
-use Rattle.lc_core.specs.declared.call_fault.CallFault.TheVariants.{Refused as IsRefused}
+use Rattle.lc_events.specs.declared.call_fault.CallFault.{CallFault}
+use Rattle.lc_events.specs.declared.call_fault.CallFault.TheVariants.{Refused as IsRefused}
 use Rattle.lc_c.specs.SuspendedTransactions.{AreKept, IsMore, IsSame, RefusesRead}
 use Rattle.lc_c.specs.SessionState.{SessionStore, refusal_of}
 use Rattle.lc_c.specs.contracts.mirror_area.MirrorAreaArea.TheImpl.{ghosts}

@@ -7,8 +7,8 @@ use Rattle.lc_model.specs.declared.refusal.Refusal.{Refusal}
 use Rattle.lc_model.specs.declared.reply.Reply.TheVariants.{Bytes, Refused}
 use Rattle.lc_core.specs.OpenTransactions.{open_transaction, threads_of}
 use Rattle.lc_core.specs.Truncating.{StepsTo}
-use Rattle.lc_core.specs.declared.call_fault.CallFault.{CallFault}
-use Rattle.lc_core.specs.declared.call_fault.CallFault.TheVariants.{NoMemory, Refused as IsRefused}
+use Rattle.lc_events.specs.declared.call_fault.CallFault.{CallFault}
+use Rattle.lc_events.specs.declared.call_fault.CallFault.TheVariants.{NoMemory, Refused as IsRefused}
 use Rattle.lc_c.specs.SessionState.{SessionStore}
 use Rattle.lc_c.specs.contracts.mirror_area.MirrorAreaArea.TheImpl.{ghosts}
 use Rattle.lc_c.specs.declared.aside.Aside.{Aside}

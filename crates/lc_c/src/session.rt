@@ -3,9 +3,9 @@ ghost use Rattle.std.specs.Prelude.{◌≡◌, [], true, false, Option, None, So
 ghost use Rattle.std.specs.Prelude.{option_copied};
 ghost use Rattle.lc_model.specs.declared.event.Event.TheVariants.{Begin, Read, Write};
 ghost use Rattle.lc_model.specs.declared.reply.Reply.TheVariants.{Bytes, Refused};
-ghost use Rattle.lc_core.specs.declared.call_fault.CallFault.TheVariants.{NoMemory, Refused as IsRefused};
+ghost use Rattle.lc_events.specs.declared.call_fault.CallFault.TheVariants.{NoMemory, Refused as IsRefused};
 ghost use Rattle.lc_model.specs.declared.refusal.Refusal.TheVariants.{OutOfTurn};
-ghost use Rattle.lc_core.specs.Answered.{done as done_reply};
+ghost use Rattle.lc_events.specs.Answered.{done as done_reply};
 ghost use Rattle.lc_c.specs.declared.session_state.SessionState.TheVariants.{Over};
 ghost use Rattle.lc_c.specs.Mirrors.{window_in};
 ghost use Rattle.lc_c.specs.declared.mirror_area.MirrorArea.{MirrorArea as Mirror};

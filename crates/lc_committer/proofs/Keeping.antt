@@ -8,14 +8,14 @@ use Rattle.lc_stage.specs.declared.stage_view.StageView.{StageView}
 use Rattle.lc_disk.specs.declared.area.Area.{Ghosts}
 use Rattle.lc_node.specs.Commits.{CommitsAmong}
 use Rattle.lc_node.specs.MakingRoom.{CommitsAlone, CommitsFirst, CommitsInRoom, CommitsOrEmpties, EmptiesAndCommits, EndsIn, TransactsInRoom}
-use Rattle.lc_node.specs.Ran.{Tells}
-use Rattle.lc_node.specs.Receipts.{IsOfDevice, Learns, Receives}
+use Rattle.lc_segments.specs.Ran.{Tells}
+use Rattle.lc_log_side.specs.Receipts.{IsOfDevice, Learns, Receives}
 use Rattle.lc_node.specs.declared.commit_kind.Commit.{Commit}
 use Rattle.lc_node.specs.declared.commit_kind.Mode.{Mode}
 use Rattle.lc_node.specs.declared.commit_kind.Mode.TheVariants.{Lazy as NotWaiting, Flush as Waiting}
-use Rattle.lc_node.specs.declared.held.HeldSide.{HeldSide}
+use Rattle.lc_segments.specs.declared.held.HeldSide.{HeldSide}
 use Rattle.lc_node.specs.declared.node.Node.{Node}
-use Rattle.lc_node.specs.declared.node_fault.NodeFault.{NodeFault}
+use Rattle.lc_segments.specs.declared.node_fault.NodeFault.{NodeFault}
 use Rattle.lc_committer.specs.Kept.{KeepsReceipts}
 
 same : (v w : StageView) → w.receipts ≡ v.receipts → KeepsReceipts v w

@@ -7,10 +7,10 @@ use Rattle.lc_stage.specs.Staging.{Owns}
 use Rattle.lc_stage.specs.declared.receipt.Receipt.{Receipt}
 use Rattle.lc_stage.specs.declared.stage_view.Reservation.{Reservation}
 use Rattle.lc_stage.specs.declared.stage_view.StageView.{StageView}
-use Rattle.lc_node.specs.Among.{IsAmong}
-use Rattle.lc_node.specs.LogView.{LogView}
-use Rattle.lc_node.specs.declared.confirming.Confirmed.{Confirmed}
-use Rattle.lc_node.specs.declared.confirming.Confirmed.TheVariants.{Here, Earlier}
+use Rattle.lc_log_side.specs.Among.{IsAmong}
+use Rattle.lc_log_side.specs.LogView.{LogView}
+use Rattle.lc_log_side.specs.declared.confirming.Confirmed.{Confirmed}
+use Rattle.lc_log_side.specs.declared.confirming.Confirmed.TheVariants.{Here, Earlier}
 
 pub apart : (answer : Confirmed) (index round : ℕ) → answer ≡ Here index → answer ≡ Earlier round → ⊥
 apart answer index round here earlier = absurd cc

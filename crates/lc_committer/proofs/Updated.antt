@@ -15,7 +15,7 @@ use Rattle.lc_tx.specs.Images.{IsSame, IsWritten, bytes_of}
 use Rattle.lc_tx.specs.Tx.{AreSet, Holds, Locked, Reads, RunsOn, SetsRange}
 use Rattle.lc_tx.proofs.HoldsLemmas.{read_apart}
 use Rattle.lc_tx.proofs.MemberLemmas.{is_one}
-use Rattle.lc_node.proofs.PutBytes.{agree, not_locked}
+use Rattle.lc_segments.proofs.PutBytes.{agree, not_locked}
 use Rattle.lc_committer.specs.Update.{Fits, IsUnchanged}
 use Rattle.lc_committer.specs.declared.update.Update.{Update}
 

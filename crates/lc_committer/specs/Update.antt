@@ -5,7 +5,7 @@ use Rattle.lc_record.specs.Transaction.{is_member}
 use Rattle.lc_range.specs.RangeSet.{AddsPositions}
 use Rattle.lc_tx.specs.declared.tx_fault.TxFault.{TxFault}
 use Rattle.lc_tx.specs.declared.tx_fault.TxFault.TheVariants.{NotLocked, ReadOnly, EmptyRange, OutOfSegment, TooManyRanges, NoMemory}
-use Rattle.lc_node.specs.Ran.{AgreeOn, Bytes, Runs}
+use Rattle.lc_segments.specs.Ran.{AgreeOn, Bytes, Runs}
 use Rattle.lc_committer.specs.declared.update.Update.{Update}
 
 module _ {C : Type 0} where

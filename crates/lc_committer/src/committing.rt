@@ -2,7 +2,7 @@
 ghost use Rattle.std.specs.Prelude.{◌≡◌, Ok};
 ghost use Rattle.lc_stage.specs.declared.receipt.Receipt.{Receipt as Given};
 ghost use Rattle.lc_node.specs.MakingRoom.{TransactsInRoom};
-ghost use Rattle.lc_node.specs.Receipts.{HasReceipt};
+ghost use Rattle.lc_log_side.specs.Receipts.{HasReceipt};
 ghost use Rattle.lc_node.specs.declared.commit_kind.Commit.TheVariants.{Flushed};
 ghost use Rattle.lc_committer.specs.Kept.{KeepsReceipts};
 

@@ -1,6 +1,6 @@
 //! A committer asks where its records are.
 ghost use Rattle.std.specs.Prelude.{◌≡◌};
-ghost use Rattle.lc_node.specs.Receipts.{HasReceipt};
+ghost use Rattle.lc_log_side.specs.Receipts.{HasReceipt};
 ghost use Rattle.lc_committer.specs.Records.{ConfirmsIn};
 
 use crate::Committer;

@@ -1,8 +1,8 @@
 //! A committer reads its records back.
 ghost use Rattle.std.specs.Prelude.{◌≡◌, ◌≤◌, ◌<◌, ℕ, List, [], length, IfOk, IfErr, OnOk, OnErr, vec_capacity};
-ghost use Rattle.lc_node.specs.Among.{IsAmong};
-ghost use Rattle.lc_node.specs.Receipts.{HasReceipt};
-ghost use Rattle.lc_node.specs.declared.node_fault.NodeFault.TheVariants.{NoMemory};
+ghost use Rattle.lc_log_side.specs.Among.{IsAmong};
+ghost use Rattle.lc_log_side.specs.Receipts.{HasReceipt};
+ghost use Rattle.lc_segments.specs.declared.node_fault.NodeFault.TheVariants.{NoMemory};
 ghost use Rattle.lc_committer.specs.Records.{ReadsIn};
 
 use crate::Committer;

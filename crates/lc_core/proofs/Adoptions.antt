@@ -19,19 +19,21 @@ use Rattle.lc_token.specs.declared.token.Token.{Token}
 use Rattle.lc_trunc.specs.KnownClean.{known as known_of}
 use Rattle.lc_core.specs.Adopting.{IsAdopted, IsAdoptedArea, IsAdoptedNode, IsAdoptedSlot, IsAdoptedToken, IsAdoptedUp}
 use Rattle.lc_core.specs.Devices.{HonestLogs}
-use Rattle.lc_core.specs.Log.{Stands, area_of, is_idle}
+use Rattle.lc_journal.specs.Log.{Stands, area_of, is_idle}
 use Rattle.lc_core.specs.Made.{AreFound, IsFoundNode, IsFoundSegment, IsMadeUp}
-use Rattle.lc_core.specs.Pieces.{IsMadeNode, IsMadeSlot, is_here, left_by, standing_at}
-use Rattle.lc_core.specs.Places.{same_some}
-use Rattle.lc_core.specs.Records.{KeptRecords, marks_of}
-use Rattle.lc_core.specs.Slots.{segment_to}
-use Rattle.lc_core.specs.declared.log.Log.{Log}
-use Rattle.lc_core.specs.declared.node_state.NodeState.{NodeState}
-use Rattle.lc_core.specs.declared.node_piece.NodePiece.{NodePiece}
-use Rattle.lc_core.specs.declared.pages.Pages.{Pages}
-use Rattle.lc_core.specs.declared.segment_piece.SegmentPiece.{SegmentPiece}
-use Rattle.lc_core.specs.declared.segment_pieces.SegmentPieces.{SegmentPieces}
-use Rattle.lc_core.specs.declared.segment_copy.SegmentCopy.{SegmentCopy}
+use Rattle.lc_events.specs.Pieces.{IsMadeNode}
+use Rattle.lc_desk.specs.Pieces.{IsMadeSlot, is_here, standing_at}
+use Rattle.lc_core.specs.Pieces.{left_by}
+use Rattle.lc_settled.specs.Places.{same_some}
+use Rattle.lc_journal.specs.Records.{KeptRecords, marks_of}
+use Rattle.lc_desk.specs.Slots.{segment_to}
+use Rattle.lc_journal.specs.declared.log.Log.{Log}
+use Rattle.lc_events.specs.declared.node_state.NodeState.{NodeState}
+use Rattle.lc_journal.specs.declared.node_piece.NodePiece.{NodePiece}
+use Rattle.lc_desk.specs.declared.pages.Pages.{Pages}
+use Rattle.lc_desk.specs.declared.segment_piece.SegmentPiece.{SegmentPiece}
+use Rattle.lc_desk.specs.declared.segment_pieces.SegmentPieces.{SegmentPieces}
+use Rattle.lc_desk.specs.declared.segment_copy.SegmentCopy.{SegmentCopy}
 use Rattle.lc_core.specs.declared.up.Up.{Up}
 
 -- where a token is, by the machine

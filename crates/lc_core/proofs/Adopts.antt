@@ -25,15 +25,15 @@ use Rattle.lc_model.specs.Stored.{Shows, records_of}
 use Rattle.lc_token.specs.Backlog.{Backlog, Ascends}
 use Rattle.lc_token.specs.declared.token.Token.{Token}
 use Rattle.lc_trunc.specs.Clean.{IsCleanTo, IsTouched, all_of, closed_of}
-use Rattle.lc_core.specs.Coherent.{AreCoherent, entries_of as token_entries}
-use Rattle.lc_core.specs.Journal.{FitsLog}
-use Rattle.lc_core.specs.Log.{Stands, HasReset, is_failed}
-use Rattle.lc_core.specs.Numbers.{Numbers, token_number}
-use Rattle.lc_core.specs.Records.{KeptRecords, marks_of}
-use Rattle.lc_core.specs.Running.{FitsRunning, FitsTravelling}
-use Rattle.lc_core.specs.Slots.{FitsToken}
-use Rattle.lc_core.specs.declared.log.Log.{Log}
-use Rattle.lc_core.specs.declared.running.Running.{Running}
+use Rattle.lc_journal.specs.Coherent.{AreCoherent, entries_of as token_entries}
+use Rattle.lc_journal.specs.Journal.{FitsLog}
+use Rattle.lc_journal.specs.Log.{Stands, HasReset, is_failed}
+use Rattle.lc_settled.specs.Numbers.{Numbers, token_number}
+use Rattle.lc_journal.specs.Records.{KeptRecords, marks_of}
+use Rattle.lc_events.specs.Running.{FitsRunning, FitsTravelling}
+use Rattle.lc_desk.specs.Slots.{FitsToken}
+use Rattle.lc_journal.specs.declared.log.Log.{Log}
+use Rattle.lc_events.specs.declared.running.Running.{Running}
 use Rattle.std.specs.List.{list_any}
 use Rattle.lc_tx.specs.Holders.{reads, writer_of}
 use Rattle.lc_tx.specs.Images.{IsHere, bytes_of, holders_of}
@@ -45,15 +45,15 @@ use Rattle.lc_model.specs.State.{is_unclosed}
 use Rattle.lc_model.proofs.Merging.{of_a_segment, counted-length}
 use Rattle.lc_model.proofs.Numbers.{part-replicate}
 use Rattle.lc_model.proofs.Result.{shape-effects}
-use Rattle.lc_core.specs.Desk.{FitsDesk, FitsSeat}
-use Rattle.lc_core.specs.Here.{beside, number_at, number_in, the_images}
-use Rattle.lc_core.specs.NodeState.{FitsNode}
-use Rattle.lc_core.specs.Slots.{Awaits, Besides, FitsSlot, FitsSlots, besides_of, segment_to}
-use Rattle.lc_core.specs.declared.here.Here.{Here}
-use Rattle.lc_core.specs.declared.node_state.NodeState.{NodeState}
-use Rattle.lc_core.specs.Seat.{Seat, Free}
-use Rattle.lc_core.specs.declared.segment_copy.SegmentCopy.{SegmentCopy}
-use Rattle.lc_core.proofs.Cohering.{entry_is, entries_count}
+use Rattle.lc_desk.specs.Desk.{FitsDesk, FitsSeat}
+use Rattle.lc_desk.specs.Here.{beside, number_at, number_in, the_images}
+use Rattle.lc_events.specs.NodeState.{FitsNode}
+use Rattle.lc_desk.specs.Slots.{Awaits, Besides, FitsSlot, FitsSlots, besides_of, segment_to}
+use Rattle.lc_desk.specs.declared.here.Here.{Here}
+use Rattle.lc_events.specs.declared.node_state.NodeState.{NodeState}
+use Rattle.lc_desk.specs.Seat.{Seat, Free}
+use Rattle.lc_desk.specs.declared.segment_copy.SegmentCopy.{SegmentCopy}
+use Rattle.lc_journal.proofs.Cohering.{entry_is, entries_count}
 use Rattle.lc_core.proofs.Rising.{get-replicate, idle_works, shown_is, slot_of}
 use Rattle.lc_rest.specs.Adopted.{transaction_of, history_of}
 use Rattle.lc_rest.specs.Found.{Found, IsConsistent, last_number, machine_setting, machine_state, own_records}

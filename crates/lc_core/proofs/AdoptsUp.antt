@@ -5,11 +5,11 @@ use Rattle.std.proofs.lemmas.List.{length-replicate}
 use Rattle.std.proofs.lemmas.Option.{slice_get_within}
 use Rattle.lc_disk.specs.declared.area.Area.{Ghosts}
 use Rattle.lc_core.specs.HonestAreas.{HonestUp}
-use Rattle.lc_core.specs.Pages.{FitsArea, IsPageAt}
+use Rattle.lc_desk.specs.Pages.{FitsArea, IsPageAt}
 use Rattle.lc_core.specs.World.{FitsUp}
-use Rattle.lc_core.specs.declared.page_state.PageState.{PageState}
-use Rattle.lc_core.specs.declared.page_state.PageState.TheVariants.{AtRest, Failed}
-use Rattle.lc_core.specs.declared.pages.Pages.{Pages}
+use Rattle.lc_desk.specs.declared.page_state.PageState.{PageState}
+use Rattle.lc_desk.specs.declared.page_state.PageState.TheVariants.{AtRest, Failed}
+use Rattle.lc_desk.specs.declared.pages.Pages.{Pages}
 use Rattle.lc_core.specs.declared.up.Up.{Up as UpStore}
 use Rattle.lc_core.proofs.Rising.{get-replicate}
 use Rattle.lc_rest.specs.Found.{Found, IsConsistent, machine_setting, machine_state}

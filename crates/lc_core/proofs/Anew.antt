@@ -1,9 +1,8 @@
 -- After the merge of honest areas the store fits the machine's first state, with the content that they read as.
-use Rattle.std.proofs.Common.{◌≡◌, ℕ, ◌≤◌, List, map, Some, false, refl, sym, subst}
+use Rattle.std.proofs.Common.{◌≡◌, ℕ, List, Some, false, refl, sym, subst}
 use Rattle.std.specs.Prelude.{replicate, slice_get}
 use Rattle.lc_disk.specs.declared.area.Area.{Ghosts}
 use Rattle.lc_model.specs.Merge.{MergesTo}
-use Rattle.lc_model.specs.State.{Setting}
 use Rattle.lc_model.proofs.Keeps.{sound-first}
 use Rattle.lc_recover.specs.Reads.{AllMergeTo, AreHonest, HaveLengths, store_of}
 use Rattle.lc_recover.specs.Recovery.{Recovering, IsMerged}

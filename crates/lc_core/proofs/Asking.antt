@@ -1,5 +1,5 @@
 -- What wants memory, by the state and the numbers that a store fits.
-use Rattle.std.proofs.Common.{◌≡◌, ◌≢◌, ◌⊎◌, ◌∙◌, ℕ, ◌+◌, ◌<◌, ◌≤◌, true, false, ◌||◌, ◌==◌, length, Option, None, refl, sym, ap, subst, inl, inr, arith, le-leb, ne_eqb}
+use Rattle.std.proofs.Common.{◌≡◌, ◌≢◌, ◌⊎◌, ◌∙◌, ℕ, ◌+◌, ◌<◌, ◌≤◌, true, false, ◌||◌, ◌==◌, length, None, refl, sym, ap, subst, inl, inr, arith, le-leb, ne_eqb}
 use Rattle.std.specs.Prelude.{nat_le}
 use Rattle.std.proofs.lemmas.Bool.{cases_lt, false_from_ne_true}
 use Rattle.lc_disk.specs.declared.area.Area.{Ghosts}
@@ -16,24 +16,22 @@ use Rattle.lc_model.specs.Refusals.{common_refusal, is_up, read_refusal, set_ran
 use Rattle.lc_model.specs.State.{Setting, State}
 use Rattle.lc_model.specs.declared.event.Event.{Event}
 use Rattle.lc_model.specs.declared.event.Event.TheVariants.{Begin, SetRange, Write, Read, Abort, Reserve, Close, FlushStep, Leave, Arrive, Deliver, Trim, PageStep, ResetStep, Stop, RecoverStep}
-use Rattle.lc_model.specs.declared.refusal.Refusal.{Refusal}
 use Rattle.lc_tx.specs.Images.{bytes_of}
 use Rattle.lc_tx.proofs.HoldsLemmas.{held_here}
 use Rattle.lc_tx.proofs.StandsLemmas.{more_runs, positions_set}
 use Rattle.lc_core.specs.Asks.{EventAsks, Grows, ReadsSome, SetsMore, TakesRoom}
-use Rattle.lc_core.specs.Desk.{IsOpen}
-use Rattle.lc_core.specs.Here.{the_images}
-use Rattle.lc_core.specs.Numbers.{Numbers}
-use Rattle.lc_core.specs.Refuses.{Refuses}
-use Rattle.lc_core.specs.Running.{FitsRunning, WantsBytes, WantsRange}
-use Rattle.lc_core.specs.Seat.{Open, holder_of}
-use Rattle.lc_core.specs.Stepping.{AsksMemory, Wants}
+use Rattle.lc_desk.specs.Desk.{IsOpen}
+use Rattle.lc_desk.specs.Here.{the_images}
+use Rattle.lc_settled.specs.Numbers.{Numbers}
+use Rattle.lc_events.specs.Running.{FitsRunning, WantsBytes, WantsRange}
+use Rattle.lc_desk.specs.Seat.{Open, holder_of}
+use Rattle.lc_events.specs.Stepping.{Wants}
 use Rattle.lc_core.specs.World.{AsksIn, AsksWorld, FitsDown, FitsPhase}
 use Rattle.lc_core.specs.declared.world_phase.WorldPhase.{WorldPhase}
 use Rattle.lc_core.specs.declared.world_phase.WorldPhase.TheVariants.{Down, Up, Taken}
-use Rattle.lc_core.specs.declared.running.Running.{Running}
+use Rattle.lc_events.specs.declared.running.Running.{Running}
 use Rattle.lc_core.specs.declared.world.World.{World}
-use Rattle.lc_core.proofs.RangeRows.{all_reached, lock_is, size_is}
+use Rattle.lc_desk.proofs.RangeRows.{all_reached, lock_is, size_is}
 
 -- What is not refused
 
@@ -113,13 +111,6 @@ module _ {D : Type 0} (a : Ghosts D) where
   grows w (ResetStep node) m s x fits wants = wants
   grows w (Stop choices) m s x fits wants = absurd wants
   grows w RecoverStep m s x fits wants = absurd wants
-
-  -- what wants memory, after the refusals that are common to all
-  pub asks_behind : (w : Running D a) (event own : Event) (refusal : Option Refusal) → Refuses a w event refusal → refusal ≡ None → event ≡ own → Wants a w own → AsksMemory a w event
-  asks_behind w event own refusal refuses none is wants = (
-    subst (λ (r : Option Refusal). Refuses a w event r) none refuses,
-    subst (λ (e : Event). Wants a w e) (sym is) wants,
-  )
 
   -- Of any store
 

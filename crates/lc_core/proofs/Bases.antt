@@ -21,12 +21,12 @@ use Rattle.lc_model.specs.declared.refusal.Refusal.TheVariants.{DeviceFault, Out
 use Rattle.lc_model.specs.declared.reply.Reply.{Reply}
 use Rattle.lc_model.specs.declared.reply.Reply.TheVariants.{Ok as Accepted, Stepped, Applied, HeldBack, Trimmed, Written, Reset, Down, Recovered, Refused}
 use Rattle.lc_model.proofs.Keeps.{match-case}
-use Rattle.lc_core.specs.Numbers.{Numbers, recovered_numbers}
-use Rattle.lc_core.specs.Runs.{RunsOn}
-use Rattle.lc_core.specs.Settled.{number_of}
-use Rattle.lc_core.specs.Turns.{IsRecovered, Turns, call_made, closed_with, held_back, kept_numbers, numbers_after, opened_with, settled_with}
+use Rattle.lc_settled.specs.Numbers.{Numbers, recovered_numbers}
+use Rattle.lc_settled.specs.Runs.{RunsOn}
+use Rattle.lc_settled.specs.Settled.{number_of}
+use Rattle.lc_settled.specs.Turns.{IsRecovered, Turns, call_made, closed_with, held_back, kept_numbers, numbers_after, opened_with, settled_with}
 use Rattle.lc_core.proofs.Recoveries.{none_common}
-use Rattle.lc_core.proofs.SameHistory.{row_same}
+use Rattle.lc_journal.proofs.SameHistory.{row_same}
 
 -- numbers with these of the segments
 pub with_numbers : Geometry → (ℕ → ℕ) → Numbers

@@ -1,5 +1,5 @@
 -- Which pages are blocked at a node: the store and the numbers say the same, while no call of the node has failed.
-use Rattle.std.proofs.Common.{◌≡◌, ℕ, suc, ◌+◌, ◌-◌, ◌<◌, ◌≤◌, ◌==◌, ◌&&◌, Bool, true, false, nat_lt, List, length, map, Option, Some, None, refl, sym, ap, subst, ◌∙◌, arith, inl, inr, true≢false}
+use Rattle.std.proofs.Common.{◌≡◌, ℕ, suc, ◌+◌, ◌-◌, ◌<◌, ◌≤◌, ◌==◌, ◌&&◌, Bool, true, false, nat_lt, Option, Some, None, refl, sym, ap, subst, ◌∙◌, arith, inl, inr, true≢false}
 use Rattle.std.specs.Prelude.{◌↔◌, IsTrue, slice_get, IsSome, option_map, if◌then◌else◌}
 use Rattle.std.specs.List.{list_any}
 use Rattle.std.specs.Option.{unwrap_or}
@@ -15,22 +15,24 @@ use Rattle.lc_model.specs.Refusals.{is_at, is_up}
 use Rattle.lc_model.specs.Sound.{holders}
 use Rattle.lc_model.specs.State.{At, Setting, State}
 use Rattle.lc_core.specs.Due.{is_blocked_then, number_then}
-use Rattle.lc_core.specs.Here.{beside, number_at, number_in, the_images}
-use Rattle.lc_core.specs.NodeState.{FitsNode}
-use Rattle.lc_core.specs.Numbers.{Numbers, sets_on, stable}
-use Rattle.lc_core.specs.Pages.{IsPageAt}
-use Rattle.lc_core.specs.Truncating.{HasOpenOn, IsBlocked, newer_at, newer_in, newer_of, under_way_at, under_way_in, under_way_of}
-use Rattle.lc_core.specs.Uncommitted.{HasSeatOn}
+use Rattle.lc_desk.specs.Here.{beside, number_at, number_in, the_images}
+use Rattle.lc_events.specs.NodeState.{FitsNode}
+use Rattle.lc_settled.specs.Numbers.{Numbers, sets_on, stable}
+use Rattle.lc_desk.specs.Pages.{IsPageAt}
+use Rattle.lc_core.specs.Truncating.{HasOpenOn, IsBlocked, newer_at, under_way_in}
+use Rattle.lc_events.specs.Truncating.{newer_in}
+use Rattle.lc_desk.specs.Truncating.{newer_of, under_way_at, under_way_of}
+use Rattle.lc_desk.specs.Uncommitted.{HasSeatOn}
 use Rattle.lc_core.specs.World.{FitsUp}
-use Rattle.lc_core.specs.declared.node_state.NodeState.{NodeState}
-use Rattle.lc_core.specs.declared.page_state.PageState.{PageState}
-use Rattle.lc_core.specs.declared.page_state.PageState.TheVariants.{AtRest, UnderWay, Failed}
-use Rattle.lc_core.specs.declared.pages.Pages.{Pages}
+use Rattle.lc_events.specs.declared.node_state.NodeState.{NodeState}
+use Rattle.lc_desk.specs.declared.page_state.PageState.{PageState}
+use Rattle.lc_desk.specs.declared.page_state.PageState.TheVariants.{AtRest, UnderWay, Failed}
+use Rattle.lc_desk.specs.declared.pages.Pages.{Pages}
 use Rattle.lc_core.specs.declared.world_phase.WorldPhase.TheVariants.{Up}
-use Rattle.lc_core.specs.declared.segment_copy.SegmentCopy.{SegmentCopy}
+use Rattle.lc_desk.specs.declared.segment_copy.SegmentCopy.{SegmentCopy}
 use Rattle.lc_core.specs.declared.up.Up.{Up as Rising}
 use Rattle.lc_core.proofs.DuePages.{not_outside, some_calls}
-use Rattle.lc_core.proofs.OnPages.{any_found, holder_seat, uncommitted_is}
+use Rattle.lc_events.proofs.OnPages.{any_found, holder_seat, uncommitted_is}
 
 no_calls : (calls : ℕ) → 1 ≤ calls → (calls == 0) ≡ false
 no_calls calls some = false_from_ne_true (calls == 0) (λ is. let none : calls ≡ 0 = eqb-true calls 0 is in omega (arith, none, some))

@@ -10,23 +10,24 @@ use Rattle.lc_record.specs.declared.record.Record.{Record}
 use Rattle.lc_record.proofs.ListLemmas.{slice_get_some as some_at, slice_get-map_some as get-map, slice_get_from_map as mapped_at}
 use Rattle.lc_rest.specs.Merge.{logs_of}
 use Rattle.lc_token.specs.declared.token.Token.{Token}
-use Rattle.lc_core.specs.AsRead.{AreAsRead, IsAsRead}
+use Rattle.lc_reading.specs.AsRead.{AreAsRead, IsAsRead}
 use Rattle.lc_rest.specs.AtRest.{AllKeepTokens}
 use Rattle.lc_core.specs.Made.{AreSegments}
 use Rattle.lc_rest.specs.Parts.{AreKept}
-use Rattle.lc_core.specs.Pictures.{AreImages}
-use Rattle.lc_core.specs.Pieces.{AreNodePieces, AreTokens}
-use Rattle.lc_core.specs.Places.{same_some}
-use Rattle.lc_core.specs.ReadAreas.{AreAreas, AreWhole}
-use Rattle.lc_core.specs.ReadNodes.{AreReadNodes, images_of}
-use Rattle.lc_core.specs.Readings.{at_segment, no_token, tests_of}
-use Rattle.lc_core.specs.declared.node_images.NodeImages.{NodeImages}
+use Rattle.lc_reading.specs.Pictures.{AreImages}
+use Rattle.lc_core.specs.Pieces.{AreNodePieces}
+use Rattle.lc_desk.specs.Pieces.{AreTokens}
+use Rattle.lc_settled.specs.Places.{same_some}
+use Rattle.lc_reading.specs.ReadAreas.{AreAreas, AreWhole}
+use Rattle.lc_reading.specs.ReadNodes.{AreReadNodes, images_of}
+use Rattle.lc_reading.specs.Readings.{at_segment, no_token, tests_of}
+use Rattle.lc_reading.specs.declared.node_images.NodeImages.{NodeImages}
 use Rattle.lc_rest.specs.declared.node_part.NodePart.{NodePart}
 use Rattle.lc_rest.specs.declared.parts.Parts.{Parts}
-use Rattle.lc_core.specs.declared.read_nodes.ReadNodes.{ReadNodes}
-use Rattle.lc_core.specs.declared.read_parts.ReadParts.{ReadParts}
+use Rattle.lc_reading.specs.declared.read_nodes.ReadNodes.{ReadNodes}
+use Rattle.lc_reading.specs.declared.read_parts.ReadParts.{ReadParts}
 use Rattle.lc_rest.specs.declared.segment_part.SegmentPart.{SegmentPart}
-use Rattle.lc_core.proofs.TokenReads.{index_at}
+use Rattle.lc_reading.proofs.TokenReads.{index_at}
 
 here : {A : Type 0} (xs : List A) (k : ℕ) (x : A) → slice_get xs k ≡ Some x → slice_index_or xs k x ≡ x
 here xs k x got = get_or_from_slice_get xs k x x got

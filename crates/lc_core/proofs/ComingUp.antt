@@ -16,17 +16,17 @@ use Rattle.lc_recover.specs.declared.progress.Progress.{Progress}
 use Rattle.lc_recover.specs.declared.progress.Progress.TheVariants.{Stepped as HasMoved, Recovered as HasRecovered}
 use Rattle.lc_core.specs.Calls.{CallsArea, KeepsAreas}
 use Rattle.lc_core.specs.ComingUp.{ComesUpBy, RecoversIn, RecoversTo, WantsToRecover, last_reply, steps_left}
-use Rattle.lc_core.specs.FaultReplies.{is_unknown}
+use Rattle.lc_journal.specs.FaultReplies.{is_unknown}
 use Rattle.lc_core.specs.Faults.{CountsPhase, phase_failures}
 use Rattle.lc_core.specs.Geometries.{phase_geometry}
 use Rattle.lc_core.specs.Lives.{Anyhow, FitsLife, IsBorn, IsNewborn}
 use Rattle.lc_core.specs.Observed.{stands_up}
-use Rattle.lc_core.specs.MayReply.{may_recover}
+use Rattle.lc_events.specs.MayReply.{may_recover}
 use Rattle.lc_core.specs.Recovering.{RepliesTo}
 use Rattle.lc_core.specs.Recovers.{RecoversDown, RefusesAtOnce}
 use Rattle.lc_core.specs.World.{AsksIn, BeginsAnew, FollowsWorld, StillFitsWorld}
-use Rattle.lc_core.specs.declared.call_fault.CallFault.{CallFault}
-use Rattle.lc_core.specs.declared.call_fault.CallFault.TheVariants.{NoMemory, Refused as IsRefused}
+use Rattle.lc_events.specs.declared.call_fault.CallFault.{CallFault}
+use Rattle.lc_events.specs.declared.call_fault.CallFault.TheVariants.{NoMemory, Refused as IsRefused}
 use Rattle.lc_core.specs.declared.world_phase.WorldPhase.{WorldPhase}
 use Rattle.lc_core.specs.declared.world_phase.WorldPhase.TheVariants.{Down, Up, Taken}
 use Rattle.lc_core.specs.declared.up.Up.{Up as Rising}
@@ -34,7 +34,7 @@ use Rattle.lc_core.specs.declared.world.World.{World}
 use Rattle.lc_core.proofs.Asking.{asks_world}
 use Rattle.lc_core.proofs.Geometries.{recovers_outside}
 use Rattle.lc_core.proofs.Living.{born}
-use Rattle.lc_core.proofs.Names.{answers_may}
+use Rattle.lc_events.proofs.Names.{answers_may}
 use Rattle.lc_core.proofs.Recoveries.{if_ok_at}
 
 -- a step of a recovery answers nothing else

@@ -7,21 +7,21 @@ use Rattle.lc_disk.specs.declared.area.Area.{Ghosts}
 use Rattle.lc_record.specs.declared.geometry.Geometry.{Geometry}
 use Rattle.lc_record.proofs.ListLemmas.{slice_get-map_some as get-map, slice_get-drop as get-drop}
 use Rattle.lc_core.specs.Devices.{HaveLogs, HavePages, HaveSegments, HonestLogs}
-use Rattle.lc_core.specs.FaultReplies.{device_kind, kind_of}
-use Rattle.lc_core.specs.Faults.{CountsLogs, SameDevices, SameLogs, log_kinds, logs_of}
-use Rattle.lc_core.specs.Log.{area_of}
+use Rattle.lc_journal.specs.FaultReplies.{device_kind, kind_of}
+use Rattle.lc_events.specs.Faults.{CountsLogs, SameDevices, SameLogs, log_kinds, logs_of}
+use Rattle.lc_journal.specs.Log.{area_of}
 use Rattle.lc_core.specs.Pages.{RestsAll, areas_of}
-use Rattle.lc_core.specs.declared.page_state.PageState.TheVariants.{AtRest}
-use Rattle.lc_core.specs.declared.pages.Pages.{Pages}
+use Rattle.lc_desk.specs.declared.page_state.PageState.TheVariants.{AtRest}
+use Rattle.lc_desk.specs.declared.pages.Pages.{Pages}
 use Rattle.lc_model.specs.declared.event.Event.{Event}
 use Rattle.lc_model.specs.declared.reply.Reply.{Reply}
 use Rattle.lc_recover.specs.Reads.{HaveLengths}
-use Rattle.lc_core.proofs.Faults.{same_devices}
+use Rattle.lc_events.proofs.Faults.{same_devices}
 use Rattle.lc_core.proofs.Opening.{log_area, segment_len}
-use Rattle.lc_core.specs.Places.{same_some}
-use Rattle.lc_core.specs.declared.log.Log.{Log}
-use Rattle.lc_core.specs.declared.node_state.NodeState.{NodeState}
-use Rattle.lc_core.specs.declared.running.Running.{Running}
+use Rattle.lc_settled.specs.Places.{same_some}
+use Rattle.lc_journal.specs.declared.log.Log.{Log}
+use Rattle.lc_events.specs.declared.node_state.NodeState.{NodeState}
+use Rattle.lc_events.specs.declared.running.Running.{Running}
 use Rattle.lc_core.specs.declared.up.Up.{Up as Rising}
 
 module _ {D : Type 0} (a : Ghosts D) where

@@ -1,7 +1,7 @@
 -- Which pages are due at a node: the store and the numbers say the same.
-use Rattle.std.proofs.Common.{◌≡◌, ℕ, suc, ◌+◌, ◌-◌, ◌<◌, ◌≤◌, ◌==◌, ◌&&◌, ◌||◌, Bool, true, false, nat_lt, List, length, map, Option, Some, None, refl, sym, ap, subst, ◌∙◌, arith, inl, inr}
+use Rattle.std.proofs.Common.{◌≡◌, ℕ, suc, ◌+◌, ◌-◌, ◌<◌, ◌≤◌, ◌==◌, ◌&&◌, ◌||◌, Bool, true, false, nat_lt, List, Option, Some, None, refl, sym, ap, subst, ◌∙◌, arith, inl, inr}
 use Rattle.std.specs.Prelude.{slice_get, IsSome, option_map}
-use Rattle.std.proofs.lemmas.Option.{slice_get-map, slice_get_cases, slice_get_within}
+use Rattle.std.proofs.lemmas.Option.{slice_get-map, slice_get_cases}
 use Rattle.std.proofs.lemmas.Bool.{eq-eqb, eqb-true, lt-ltb, cases_eq}
 use Rattle.std.proofs.lemmas.List.{length-map}
 use Rattle.lc_disk.specs.declared.area.Area.{Ghosts}
@@ -10,22 +10,23 @@ use Rattle.lc_record.specs.declared.geometry.Geometry.{Geometry}
 use Rattle.lc_token.specs.declared.token.Token.{Token}
 use Rattle.lc_model.specs.Refusals.{is_at, is_up}
 use Rattle.lc_model.specs.Sound.{IsPlace}
-use Rattle.lc_model.specs.State.{Place, At, Travelling, Phase, Setting, State, Up as IsUp}
-use Rattle.lc_core.specs.Here.{beside, number_at, number_in, the_images}
-use Rattle.lc_core.specs.NodeState.{FitsNode}
-use Rattle.lc_core.specs.Numbers.{Numbers, stable}
-use Rattle.lc_core.specs.PageState.{is_begun}
-use Rattle.lc_core.specs.Pages.{FitsArea, FitsPages, IsPageAt}
-use Rattle.lc_core.specs.Slots.{FitsToken}
-use Rattle.lc_core.specs.Truncating.{begun_at, begun_in, due_at, due_in, due_of, is_due}
+use Rattle.lc_model.specs.State.{Place, At, Travelling, Phase, Setting, State}
+use Rattle.lc_desk.specs.Here.{beside, number_at, number_in, the_images}
+use Rattle.lc_events.specs.NodeState.{FitsNode}
+use Rattle.lc_settled.specs.Numbers.{Numbers, stable}
+use Rattle.lc_desk.specs.PageState.{is_begun}
+use Rattle.lc_desk.specs.Pages.{FitsPages, IsPageAt}
+use Rattle.lc_desk.specs.Truncating.{begun_at, due_of}
+use Rattle.lc_core.specs.Truncating.{begun_in, due_at, is_due}
+use Rattle.lc_events.specs.Truncating.{due_in}
 use Rattle.lc_core.specs.World.{FitsPhase, FitsUp}
-use Rattle.lc_core.specs.declared.node_state.NodeState.{NodeState}
-use Rattle.lc_core.specs.declared.page_state.PageState.{PageState}
-use Rattle.lc_core.specs.declared.page_state.PageState.TheVariants.{AtRest, UnderWay, Failed}
-use Rattle.lc_core.specs.declared.pages.Pages.{Pages}
+use Rattle.lc_events.specs.declared.node_state.NodeState.{NodeState}
+use Rattle.lc_desk.specs.declared.page_state.PageState.{PageState}
+use Rattle.lc_desk.specs.declared.page_state.PageState.TheVariants.{AtRest, UnderWay, Failed}
+use Rattle.lc_desk.specs.declared.pages.Pages.{Pages}
 use Rattle.lc_core.specs.declared.world_phase.WorldPhase.{WorldPhase as Stands}
 use Rattle.lc_core.specs.declared.world_phase.WorldPhase.TheVariants.{Down, Up, Taken}
-use Rattle.lc_core.specs.declared.segment_copy.SegmentCopy.{SegmentCopy}
+use Rattle.lc_desk.specs.declared.segment_copy.SegmentCopy.{SegmentCopy}
 use Rattle.lc_core.specs.declared.up.Up.{Up as Rising}
 use Rattle.lc_page.specs.Writing.{calls_of}
 use Rattle.lc_page.specs.declared.writing.Writing.{Writing}

@@ -19,18 +19,20 @@ use Rattle.lc_recover.specs.declared.fault.RecoverFault.TheVariants.{BadGeometry
 use Rattle.lc_recover.specs.declared.progress.Progress.{Progress}
 use Rattle.lc_recover.specs.declared.progress.Progress.TheVariants.{Stepped as HasStepped, Recovered as HasRecovered}
 use Rattle.lc_recover.proofs.Images.{count-areas}
-use Rattle.lc_core.specs.FaultReplies.{CountsFaults, FailsOnce, is_fault}
-use Rattle.lc_core.specs.Faults.{CountsAll, CountsLogs, CountsPhase, SameLogs, area_failures, log_failures, logs_of, phase_failures}
-use Rattle.lc_core.specs.Log.{area_of}
+use Rattle.lc_events.specs.FaultReplies.{CountsFaults, FailsOnce}
+use Rattle.lc_journal.specs.FaultReplies.{is_fault}
+use Rattle.lc_core.specs.Faults.{CountsAll, CountsPhase, area_failures, phase_failures}
+use Rattle.lc_events.specs.Faults.{CountsLogs, SameLogs, log_failures, logs_of}
+use Rattle.lc_journal.specs.Log.{area_of}
 use Rattle.lc_core.specs.Pages.{areas_of}
-use Rattle.lc_core.specs.Places.{same_map_set}
+use Rattle.lc_desk.specs.Places.{same_map_set}
 use Rattle.lc_core.specs.Recovering.{ComesUp, RepliesTo}
-use Rattle.lc_core.specs.declared.log.Log.{Log}
-use Rattle.lc_core.specs.declared.node_state.NodeState.{NodeState}
-use Rattle.lc_core.specs.declared.pages.Pages.{Pages}
+use Rattle.lc_journal.specs.declared.log.Log.{Log}
+use Rattle.lc_events.specs.declared.node_state.NodeState.{NodeState}
+use Rattle.lc_desk.specs.declared.pages.Pages.{Pages}
 use Rattle.lc_core.specs.declared.world_phase.WorldPhase.{WorldPhase}
 use Rattle.lc_core.specs.declared.world_phase.WorldPhase.TheVariants.{Down, Up}
-use Rattle.lc_core.specs.declared.running.Running.{Running}
+use Rattle.lc_events.specs.declared.running.Running.{Running}
 use Rattle.lc_core.specs.declared.up.Up.{Up as Rising}
 use Rattle.lc_core.proofs.Recoveries.{if_ok_at}
 

@@ -1,5 +1,5 @@
 -- The geometry of a store stays, and what it does not have is unknown.
-use Rattle.std.proofs.Common.{◌≡◌, ◌≢◌, ℕ, ◌+◌, ◌*◌, Bool, true, false, List, Option, None, Some, refl, sym, ap, subst, ◌∙◌, inl, inr, arith, lt-ltb, true≢false}
+use Rattle.std.proofs.Common.{◌≡◌, ℕ, ◌+◌, ◌*◌, Bool, true, false, List, Option, None, Some, refl, sym, ap, subst, ◌∙◌, inl, inr, arith, lt-ltb}
 use Rattle.std.specs.Option.{ForSome}
 use Rattle.std.specs.Prelude.{Result, Ok, Err, IfOk, is_some, option_and_then, slice_get, if◌then◌else◌}
 use Rattle.std.proofs.lemmas.Bool.{cases_lt, le-ltb}
@@ -12,48 +12,30 @@ use Rattle.lc_record.proofs.ListLemmas.{slice_get_some as get-some}
 use Rattle.lc_model.specs.Refusals.{is_known, is_node}
 use Rattle.lc_model.specs.declared.event.Event.{Event}
 use Rattle.lc_model.specs.declared.event.Event.TheVariants.{RecoverStep, Stop}
-use Rattle.lc_model.specs.declared.refusal.Refusal.TheVariants.{Unknown}
 use Rattle.lc_model.specs.declared.reply.Reply.{Reply}
-use Rattle.lc_model.specs.declared.reply.Reply.TheVariants.{Down as IsDown, Refused}
+use Rattle.lc_model.specs.declared.reply.Reply.TheVariants.{Down as IsDown}
 use Rattle.lc_recover.specs.Reads.{HaveLengths}
 use Rattle.lc_recover.specs.Recovery.{Recovering}
 use Rattle.lc_recover.specs.declared.fault.RecoverFault.{RecoverFault}
 use Rattle.lc_recover.specs.declared.fault.RecoverFault.TheVariants.{BadGeometry, Gap, Twice, OutOfSegment, DeviceFault as Failed, NoMemory}
 use Rattle.lc_recover.specs.declared.progress.Progress.{Progress}
 use Rattle.lc_recover.specs.declared.progress.Progress.TheVariants.{Stepped as HasStepped, Recovered as HasRecovered}
-use Rattle.lc_core.specs.FaultReplies.{is_unknown}
-use Rattle.lc_core.specs.Geometries.{RefusesOutside, RefusesUnknown, is_delivery, phase_geometry}
-use Rattle.lc_core.specs.Log.{area_of}
+use Rattle.lc_journal.specs.FaultReplies.{is_unknown}
+use Rattle.lc_core.specs.Geometries.{RefusesOutside, phase_geometry}
+use Rattle.lc_events.specs.Geometries.{RefusesUnknown}
+use Rattle.lc_journal.specs.Log.{area_of}
 use Rattle.lc_core.specs.LogWords.{log_area}
-use Rattle.lc_core.specs.Places.{same_some}
+use Rattle.lc_settled.specs.Places.{same_some}
 use Rattle.lc_core.specs.Recovering.{ComesUp, RepliesTo}
 use Rattle.lc_core.specs.Stops.{StopsAll}
-use Rattle.lc_core.specs.declared.node_state.NodeState.{NodeState}
+use Rattle.lc_events.specs.declared.node_state.NodeState.{NodeState}
 use Rattle.lc_core.specs.declared.world_phase.WorldPhase.{WorldPhase}
 use Rattle.lc_core.specs.declared.world_phase.WorldPhase.TheVariants.{Down, Up, Taken}
 use Rattle.lc_core.specs.declared.up.Up.{Up as Rising}
 use Rattle.lc_core.proofs.Devices.{log_area_of}
 use Rattle.lc_core.proofs.Opening.{log_area as area_at}
 use Rattle.lc_core.proofs.Recoveries.{if_ok_at}
-
-pub not_unknown : (reply : Reply) → is_unknown reply ≡ false → reply ≢ Refused Unknown
-not_unknown reply plain is = true≢false (sym (ap is_unknown is) ∙ plain)
-
--- what is known is refused for reasons of its own
-pub refuses_known : (g : Geometry) (event : Event) (reply : Reply) → is_known g event ≡ true → is_unknown reply ≡ false → RefusesUnknown g event reply
-refuses_known g event reply known plain = record {
-  outside = λ out. absurd (true≢false (sym known ∙ out));
-  inside = λ within other. not_unknown reply plain;
-}
-
-pub refuses_delivery : (g : Geometry) (event : Event) (reply : Reply) → is_known g event ≡ true → is_delivery event ≡ true → RefusesUnknown g event reply
-refuses_delivery g event reply known delivers = record {
-  outside = λ out. absurd (true≢false (sym known ∙ out));
-  inside = λ within other. absurd (true≢false (sym delivers ∙ other));
-}
-
-pub refuses_outside : (g : Geometry) (event : Event) → is_known g event ≡ false → RefusesUnknown g event (Refused Unknown)
-refuses_outside g event out = record { outside = λ _. refl; inside = λ within. absurd (true≢false (sym within ∙ out)) }
+use Rattle.lc_events.proofs.Geometries.{not_unknown, refuses_known}
 
 -- a step of a recovery refuses nothing as unknown
 pub replies_known : {E : Type 0} (result : Result Progress RecoverFault) (answer : Result Reply E) → RepliesTo result answer → IfOk answer (λ reply. is_unknown reply ≡ false)

@@ -1,5 +1,5 @@
 -- The headline follows from what a store fits after a run.
-use Rattle.std.proofs.Common.{◌≡◌, ℕ, zero, suc, ◌+◌, ◌*◌, ◌<◌, ◌%◌, Bool, true, false, List, [], ◌∷◌, ◌++◌, length, filter, map, sum_by, Option, None, Some, refl, sym, ap, subst, ◌∙◌, inl, inr, arith}
+use Rattle.std.proofs.Common.{◌≡◌, ℕ, zero, suc, ◌+◌, ◌<◌, ◌%◌, Bool, true, false, List, [], ◌∷◌, ◌++◌, length, filter, map, sum_by, Option, None, Some, refl, sym, ap, subst, ◌∙◌, inl, inr, arith}
 use Rattle.std.specs.Prelude.{◌-◌, if◌then◌else◌, slice_get, slice_set}
 use Rattle.std.proofs.Math.Seq.{take-nil}
 use Rattle.std.proofs.lemmas.List.{append-nil, nil_from_length}
@@ -31,30 +31,30 @@ use Rattle.lc_model.specs.declared.reply.Reply.TheVariants.{Recovered}
 use Rattle.lc_model.proofs.Downs.{acked-kept, kept-front}
 use Rattle.lc_model.proofs.Law.{law_each, law_value}
 use Rattle.lc_model.proofs.Order.{law_meet}
-use Rattle.lc_core.specs.FaultReplies.{is_fault}
+use Rattle.lc_journal.specs.FaultReplies.{is_fault}
 use Rattle.lc_core.specs.Faults.{CountsAll, area_failures, phase_failures}
 use Rattle.lc_core.specs.Headline.{AllMerge, Cuts, Holds, IsSerial, Leaves, MergeTo}
-use Rattle.lc_core.specs.Numbers.{Numbers}
+use Rattle.lc_settled.specs.Numbers.{Numbers}
 use Rattle.lc_core.specs.Observed.{observed, stands_up}
-use Rattle.lc_core.specs.Pages.{areas_of}
-use Rattle.lc_core.specs.Places.{same_some}
-use Rattle.lc_core.specs.Runs.{FollowsRun, RunsOn, Settles}
-use Rattle.lc_core.specs.Showing.{LendsPage, image_of, page_of}
-use Rattle.lc_core.specs.Slots.{segment_to}
+use Rattle.lc_settled.specs.Places.{same_some}
+use Rattle.lc_core.specs.Runs.{FollowsRun, Settles}
+use Rattle.lc_settled.specs.Runs.{RunsOn}
+use Rattle.lc_core.specs.Showing.{LendsPage, image_of}
+use Rattle.lc_desk.specs.Showing.{page_of}
+use Rattle.lc_desk.specs.Slots.{segment_to}
 use Rattle.lc_core.specs.Stops.{HasAreas}
-use Rattle.lc_core.specs.Turns.{Turns}
+use Rattle.lc_settled.specs.Turns.{Turns}
 use Rattle.lc_core.specs.World.{FitsPhase, FitsWorld}
 use Rattle.lc_core.specs.declared.world_phase.WorldPhase.{WorldPhase}
 use Rattle.lc_core.specs.declared.world_phase.WorldPhase.TheVariants.{Down, Up, Taken}
 use Rattle.lc_core.specs.declared.world.World.{World}
 use Rattle.lc_core.proofs.Bases.{Counts, counted_all-append, run_counts}
-use Rattle.lc_core.proofs.Devices.{log_area_of}
 use Rattle.lc_core.proofs.ImagesFit.{images_merge, stopped_again, stopped_honest, stopped_images, stopped_lengths}
-use Rattle.lc_core.proofs.OneMore.{run_of}
+use Rattle.lc_settled.proofs.OneMore.{run_of}
 use Rattle.lc_core.proofs.Recoveries.{none_common}
 use Rattle.lc_core.proofs.Shown.{slot_shows}
 use Rattle.lc_core.proofs.StaysHonest.{all_areas}
-use Rattle.lc_core.proofs.Stopped.{are_of, areas_failed, their_honesty, their_lengths}
+use Rattle.lc_core.proofs.Stopped.{areas_failed, their_honesty, their_lengths}
 
 -- Failures, added up
 

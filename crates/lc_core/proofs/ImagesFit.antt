@@ -24,14 +24,15 @@ use Rattle.lc_model.proofs.Unrefused.{image-merges}
 use Rattle.lc_recover.specs.Reads.{AllMergeTo, AreHonest, AreImages, HaveLengths, area_count, store_of}
 use Rattle.lc_core.specs.Areas.{AreOf, AreStopped, IsStopped}
 use Rattle.lc_core.specs.Faults.{area_failures}
-use Rattle.lc_core.specs.Numbers.{Numbers}
-use Rattle.lc_core.specs.Pages.{FitsPages, areas_of}
-use Rattle.lc_core.specs.Running.{FitsRunning}
-use Rattle.lc_core.specs.declared.pages.Pages.{Pages}
+use Rattle.lc_settled.specs.Numbers.{Numbers}
+use Rattle.lc_desk.specs.Pages.{FitsPages}
+use Rattle.lc_core.specs.Pages.{areas_of}
+use Rattle.lc_events.specs.Running.{FitsRunning}
+use Rattle.lc_desk.specs.declared.pages.Pages.{Pages}
 use Rattle.lc_core.specs.declared.up.Up.{Up}
 use Rattle.lc_core.proofs.ImagesOfLogs.{IsCutAt, log_cut}
 use Rattle.lc_core.proofs.ImagesOfPages.{page_of, pages_shape, shows_stored}
-use Rattle.lc_core.proofs.PageImages.{images_stored}
+use Rattle.lc_desk.proofs.PageImages.{images_stored}
 
 -- a number for each of so many nodes
 pub record Chosen (P : ℕ → ℕ → Type 0) (n : ℕ) : Type 0 where

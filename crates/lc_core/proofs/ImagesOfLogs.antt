@@ -14,14 +14,14 @@ use Rattle.lc_log.proofs.StateLemmas.{opening_image, rest_image}
 use Rattle.lc_model.specs.State.{Setting, State}
 use Rattle.lc_model.specs.Stops.{MayCutAt}
 use Rattle.lc_model.specs.Stored.{Disks, IsLog, records_of}
-use Rattle.lc_core.specs.Journal.{FitsLog}
-use Rattle.lc_core.specs.Log.{Stands, HasReset, area_of}
-use Rattle.lc_core.specs.Numbers.{Numbers}
-use Rattle.lc_core.specs.Places.{same_some}
-use Rattle.lc_core.specs.Records.{KeptRecords}
-use Rattle.lc_core.specs.declared.log.Log.{Log}
-use Rattle.lc_core.specs.declared.log.Log.TheVariants.{Idle, Written, Synced, Opened, Sealed, Closing, Emptied, Failed, Torn, Taken}
-use Rattle.lc_core.proofs.Flushing.{more_stable}
+use Rattle.lc_journal.specs.Journal.{FitsLog}
+use Rattle.lc_journal.specs.Log.{Stands, HasReset, area_of}
+use Rattle.lc_settled.specs.Numbers.{Numbers}
+use Rattle.lc_settled.specs.Places.{same_some}
+use Rattle.lc_journal.specs.Records.{KeptRecords}
+use Rattle.lc_journal.specs.declared.log.Log.{Log}
+use Rattle.lc_journal.specs.declared.log.Log.TheVariants.{Idle, Written, Synced, Opened, Sealed, Closing, Emptied, Failed, Torn, Taken}
+use Rattle.lc_journal.proofs.Flushing.{more_stable}
 
 -- the words are the text of the stable records, or of these and the group, from the third step of its flush on, or, while a
 -- reset is under way, of none

@@ -12,9 +12,9 @@ use Rattle.lc_model.specs.Stored.{Shows}
 use Rattle.lc_recover.specs.Pages.{page_read, pages_read}
 use Rattle.lc_recover.specs.Reads.{area_count, store_of}
 use Rattle.lc_recover.proofs.Images.{get-pages_read, in-segment, length-pages_read, shape-of}
-use Rattle.lc_core.specs.Numbers.{Numbers}
-use Rattle.lc_core.specs.Pages.{IsStored}
-use Rattle.lc_core.specs.Places.{same_some}
+use Rattle.lc_settled.specs.Numbers.{Numbers}
+use Rattle.lc_desk.specs.Pages.{IsStored}
+use Rattle.lc_settled.specs.Places.{same_some}
 
 -- a page of the store that images read as, and the image it is read of
 pub record PageOf (g : Geometry) (images : List (List ℕ)) (segment page : ℕ) (text : Page) : Type 0 where

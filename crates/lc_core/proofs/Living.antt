@@ -11,8 +11,8 @@ use Rattle.lc_model.specs.declared.refusal.Refusal.TheVariants.{Down as IsDown, 
 use Rattle.lc_model.specs.declared.reply.Reply.{Reply}
 use Rattle.lc_model.specs.declared.reply.Reply.TheVariants.{Stepped, Recovered, Refused}
 use Rattle.lc_core.specs.Lives.{AnswersOne, Anyhow, FitsLife, FollowsLives, IsBorn, Life, Lives, LivesOn, StillLives, Told}
-use Rattle.lc_core.specs.Numbers.{recovered_numbers}
-use Rattle.lc_core.specs.MayReply.{may_recover}
+use Rattle.lc_settled.specs.Numbers.{recovered_numbers}
+use Rattle.lc_events.specs.MayReply.{may_recover}
 use Rattle.lc_core.specs.Recovers.{AnswersRecovery, RecoversDown}
 use Rattle.lc_core.specs.Stops.{StopsAll}
 use Rattle.lc_core.specs.World.{Begins, BeginsAnew, FitsUp, FollowsAnyhow, FollowsUp, StillFitsUp}

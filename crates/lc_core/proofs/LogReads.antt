@@ -22,39 +22,43 @@ use Rattle.lc_model.specs.Stored.{records_of}
 use Rattle.lc_recover.specs.Reads.{AreHonest, AreImages, HaveLengths, area_count}
 use Rattle.lc_recover.specs.Recovery.{IsReadFrom, Recovering}
 use Rattle.lc_recover.proofs.SameArea.{same-functions}
-use Rattle.lc_core.specs.Desk.{FitsDesk}
-use Rattle.lc_core.specs.Journal.{FitsLog}
+use Rattle.lc_desk.specs.Desk.{FitsDesk}
+use Rattle.lc_journal.specs.Journal.{FitsLog}
 use Rattle.lc_trunc.specs.KnownClean.{known as known_of}
 use Rattle.lc_core.specs.Lives.{StillLives}
-use Rattle.lc_core.specs.Log.{Stands, HasReset, IsLeft, area_of, is_failed}
-use Rattle.lc_core.specs.LogWords.{AreLogged, AreWordsOf, IsNodeKept, IsNodeRead, IsSameBut, ReadsLog, ReadsNone, has_failed, log_area, log_in}
-use Rattle.lc_core.specs.NodeState.{FitsNode}
-use Rattle.lc_core.specs.Numbers.{Numbers, stable_records}
+use Rattle.lc_journal.specs.Log.{Stands, HasReset, IsLeft, area_of, is_failed}
+use Rattle.lc_core.specs.LogWords.{AreLogged, AreWordsOf, IsSameBut, ReadsLog, ReadsNone, log_area}
+use Rattle.lc_events.specs.LogWords.{IsNodeKept, IsNodeRead, log_in}
+use Rattle.lc_journal.specs.LogWords.{has_failed}
+use Rattle.lc_events.specs.NodeState.{FitsNode}
+use Rattle.lc_settled.specs.Numbers.{Numbers, stable_records}
 use Rattle.lc_core.specs.Devices.{HonestLogs, HonestSegments}
 use Rattle.lc_core.specs.Paging.{HaltAll}
-use Rattle.lc_core.specs.Faults.{SameDevices}
-use Rattle.lc_core.specs.Pages.{FitsPages, areas_of}
+use Rattle.lc_events.specs.Faults.{SameDevices}
+use Rattle.lc_desk.specs.Pages.{FitsPages}
+use Rattle.lc_core.specs.Pages.{areas_of}
 use Rattle.lc_core.specs.Paging.{HaltAll}
 use Rattle.lc_core.proofs.Devices.{honest_kept}
-use Rattle.lc_core.specs.Places.{get_set_other, get_set_same, same_some}
-use Rattle.lc_core.specs.Records.{KeptRecords}
-use Rattle.lc_core.specs.Running.{FitsAll, FitsRunning}
-use Rattle.lc_core.specs.Slots.{FitsSlots, besides_of}
+use Rattle.lc_desk.specs.Places.{get_set_other, get_set_same}
+use Rattle.lc_settled.specs.Places.{same_some}
+use Rattle.lc_journal.specs.Records.{KeptRecords}
+use Rattle.lc_events.specs.Running.{FitsAll, FitsRunning}
+use Rattle.lc_desk.specs.Slots.{FitsSlots, besides_of}
 use Rattle.lc_core.specs.World.{FitsDown, FitsPhase, StillFitsUp}
-use Rattle.lc_core.specs.declared.desk.Desk.{Desk}
-use Rattle.lc_core.specs.declared.log.Log.{Log}
-use Rattle.lc_core.specs.declared.log.Log.TheVariants.{Idle, Written, Synced, Opened, Sealed, Closing, Emptied, Failed, Torn, Taken}
-use Rattle.lc_core.specs.declared.node_state.NodeState.{NodeState}
-use Rattle.lc_core.specs.declared.pages.Pages.{Pages}
+use Rattle.lc_desk.specs.declared.desk.Desk.{Desk}
+use Rattle.lc_journal.specs.declared.log.Log.{Log}
+use Rattle.lc_journal.specs.declared.log.Log.TheVariants.{Idle, Written, Synced, Opened, Sealed, Closing, Emptied, Failed, Torn, Taken}
+use Rattle.lc_events.specs.declared.node_state.NodeState.{NodeState}
+use Rattle.lc_desk.specs.declared.pages.Pages.{Pages}
 use Rattle.lc_core.specs.declared.world_phase.WorldPhase.{WorldPhase}
 use Rattle.lc_core.specs.declared.world_phase.WorldPhase.TheVariants.{Down, Up, Taken as IsTaken}
-use Rattle.lc_core.specs.declared.running.Running.{Running}
-use Rattle.lc_core.specs.declared.show_fault.ShowFault.{ShowFault}
-use Rattle.lc_core.specs.declared.show_fault.ShowFault.TheVariants.{DeviceFault, NoMemory, Unknown}
+use Rattle.lc_events.specs.declared.running.Running.{Running}
+use Rattle.lc_journal.specs.declared.show_fault.ShowFault.{ShowFault}
+use Rattle.lc_journal.specs.declared.show_fault.ShowFault.TheVariants.{DeviceFault, NoMemory, Unknown}
 use Rattle.lc_core.specs.declared.up.Up.{Up as Rising}
-use Rattle.lc_core.proofs.Flushing.{more_stable}
+use Rattle.lc_journal.proofs.Flushing.{more_stable}
 use Rattle.lc_core.proofs.Living.{up_still_lives}
-use Rattle.lc_core.proofs.Onward.{still_onward}
+use Rattle.lc_events.proofs.Onward.{still_onward}
 
 -- the words of a text's records are in front
 pub text_front : (words : List ℕ) (records : List Record) → IsLogText words records → take (length (joined records)) words ≡ joined records

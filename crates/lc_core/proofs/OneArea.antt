@@ -23,25 +23,29 @@ use Rattle.lc_recover.specs.declared.progress.Progress.{Progress}
 use Rattle.lc_recover.specs.declared.progress.Progress.TheVariants.{Stepped as HasStepped, Recovered as HasRecovered}
 use Rattle.lc_recover.proofs.Images.{count-areas}
 use Rattle.lc_core.specs.Areas.{AreOf}
-use Rattle.lc_core.specs.CallReplies.{CalledAs, CalledIf, calls_log, calls_area, tells_call}
+use Rattle.lc_events.specs.CallReplies.{CalledAs, CalledIf, calls_log}
+use Rattle.lc_core.specs.CallReplies.{calls_area}
+use Rattle.lc_journal.specs.CallReplies.{tells_call}
 use Rattle.lc_core.specs.Calls.{CallsArea, CallsOne, CallsTold, CallsWhere, KeepsAreas}
-use Rattle.lc_core.specs.FaultReplies.{CallsOneOf, is_fault}
-use Rattle.lc_core.specs.Faults.{CallsLog, CountsLogs, SameLogAreas, SameLogs, areas_in, logs_of}
-use Rattle.lc_core.specs.Log.{area_of}
+use Rattle.lc_events.specs.FaultReplies.{CallsOneOf}
+use Rattle.lc_journal.specs.FaultReplies.{is_fault}
+use Rattle.lc_events.specs.Faults.{CallsLog, CountsLogs, SameLogAreas, SameLogs, areas_in, logs_of}
+use Rattle.lc_journal.specs.Log.{area_of}
 use Rattle.lc_core.specs.Pages.{areas_of}
-use Rattle.lc_core.specs.Places.{get_set_other, get_set_same, same_some}
+use Rattle.lc_desk.specs.Places.{get_set_other, get_set_same}
+use Rattle.lc_settled.specs.Places.{same_some}
 use Rattle.lc_core.specs.Recovering.{ComesUp, RepliesTo}
-use Rattle.lc_core.specs.Stepping.{is_plain}
+use Rattle.lc_events.specs.Stepping.{is_plain}
 use Rattle.lc_core.specs.Stops.{HasAreas}
-use Rattle.lc_core.specs.declared.node_state.NodeState.{NodeState}
-use Rattle.lc_core.specs.declared.pages.Pages.{Pages}
+use Rattle.lc_events.specs.declared.node_state.NodeState.{NodeState}
+use Rattle.lc_desk.specs.declared.pages.Pages.{Pages}
 use Rattle.lc_core.specs.declared.world_phase.WorldPhase.{WorldPhase}
 use Rattle.lc_core.specs.declared.world_phase.WorldPhase.TheVariants.{Down, Up}
 use Rattle.lc_core.specs.declared.up.Up.{Up as Rising}
 use Rattle.lc_core.proofs.CallsTold.{log_called_by, plain_calls, step_free, step_other}
 use Rattle.lc_core.proofs.Failures.{StepCalls}
 use Rattle.lc_core.proofs.Recoveries.{if_ok_at}
-use Rattle.lc_core.proofs.Seating.{set_same}
+use Rattle.lc_desk.proofs.Seating.{set_same}
 
 set_drop : {A : Type 0} (xs : List A) (n k : ℕ) (y : A) → slice_set (drop n xs) k y ≡ drop n (slice_set xs (n + k) y)
 set_drop xs zero k y = (let same : k ≡ 0 + k = omega arith in ap (λ (i : ℕ). slice_set xs i y) same)

@@ -4,18 +4,19 @@ use Rattle.std.specs.Prelude.{slice_get}
 use Rattle.std.proofs.lemmas.List.{take_more}
 use Rattle.std.proofs.lemmas.Option.{slice_get_read}
 use Rattle.lc_disk.specs.declared.area.Area.{Ghosts}
-use Rattle.lc_model.specs.Machine.{Step, Run}
+use Rattle.lc_model.specs.Machine.{Step}
 use Rattle.lc_model.specs.State.{Setting, State}
 use Rattle.lc_model.specs.declared.event.Event.{Event}
 use Rattle.lc_model.specs.declared.event.Event.TheVariants.{SetRange, Read, Reserve, Deliver, RecoverStep}
 use Rattle.lc_model.specs.declared.reply.Reply.{Reply}
-use Rattle.lc_core.specs.Numbers.{Numbers}
-use Rattle.lc_core.specs.Runs.{FollowsRun, GivesUp, RunsOn}
-use Rattle.lc_core.specs.Settled.{Settled}
+use Rattle.lc_settled.specs.Numbers.{Numbers}
+use Rattle.lc_core.specs.Runs.{FollowsRun, GivesUp}
+use Rattle.lc_settled.specs.Runs.{RunsOn}
+use Rattle.lc_settled.specs.Settled.{Settled}
 use Rattle.lc_core.specs.Asks.{may_grow}
-use Rattle.lc_core.specs.Stepping.{AsksMemory}
+use Rattle.lc_events.specs.Stepping.{AsksMemory}
 use Rattle.lc_core.specs.World.{AsksAtAll, AsksIn, AsksWorld, FitsWorld, FollowsWorld, StillFitsWorld}
-use Rattle.lc_core.specs.Turns.{Turns}
+use Rattle.lc_settled.specs.Turns.{Turns}
 use Rattle.lc_core.specs.declared.world_phase.WorldPhase.{WorldPhase}
 use Rattle.lc_core.specs.declared.world_phase.WorldPhase.TheVariants.{Down, Up, Taken}
 use Rattle.lc_core.specs.declared.world.World.{World}
@@ -39,13 +40,6 @@ runs_on_more m s x (e ∷ events) (r ∷ replies) mid between event reply after 
   run.4,
   runs_on_more m run.0 run.1 events replies mid between event reply after next run.5 step settled turns,
 )
-
--- the replies are those of a run of the plain machine
-pub run_of : (m : Setting) (s : State) (x : Numbers) (events : List Event) (replies : List Reply) (after : State) (next : Numbers) → RunsOn m s x events replies after next → Run m s events replies after
-run_of m s x [] [] after next run = run.0
-run_of m s x [] (reply ∷ replies) after next run = absurd run
-run_of m s x (event ∷ events) [] after next run = absurd run
-run_of m s x (event ∷ events) (reply ∷ replies) after next run = (run.0, run.2, run_of m run.0 run.1 events replies after next run.5)
 
 module _ {D : Type 0} (a : Ghosts D) where
   pub run_start : (w : World D a) → FollowsRun a w [] [] w

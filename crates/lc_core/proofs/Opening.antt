@@ -11,12 +11,12 @@ use Rattle.lc_recover.specs.Recovered.{RecoveredStore, AreFinished}
 use Rattle.lc_recover.proofs.Images.{count-areas, len-log, len-segment}
 use Rattle.lc_core.specs.Blank.{AreFilledNodes}
 use Rattle.lc_core.specs.Fresh.{IsFresh}
-use Rattle.lc_core.specs.Log.{Stands, area_of, is_idle}
-use Rattle.lc_core.specs.Nodes.{AreWhole}
-use Rattle.lc_core.specs.Places.{same_some}
-use Rattle.lc_core.specs.declared.node_state.NodeState.{NodeState}
-use Rattle.lc_core.specs.declared.running.Running.{Running}
-use Rattle.lc_core.specs.Seat.{Free}
+use Rattle.lc_journal.specs.Log.{Stands, area_of, is_idle}
+use Rattle.lc_events.specs.Nodes.{AreWhole}
+use Rattle.lc_settled.specs.Places.{same_some}
+use Rattle.lc_events.specs.declared.node_state.NodeState.{NodeState}
+use Rattle.lc_events.specs.declared.running.Running.{Running}
+use Rattle.lc_desk.specs.Seat.{Free}
 
 module _ {D : Type 0} (a : Ghosts D) where
   -- the area of a node's log

@@ -8,15 +8,15 @@ use Rattle.lc_model.specs.declared.event.Event.TheVariants.{PageStep}
 use Rattle.lc_model.specs.declared.refusal.Refusal.TheVariants.{DeviceFault}
 use Rattle.lc_model.specs.declared.reply.Reply.{Reply}
 use Rattle.lc_model.specs.declared.reply.Reply.TheVariants.{Stepped, Written, Refused}
-use Rattle.lc_core.specs.Numbers.{Numbers}
-use Rattle.lc_core.specs.Pages.{FitsArea, FitsPages}
-use Rattle.lc_core.specs.Paging.{HaltsFailed}
-use Rattle.lc_core.specs.Turns.{numbers_after}
-use Rattle.lc_core.specs.declared.pages.Pages.{Pages}
-use Rattle.lc_core.proofs.Halting.{halted_stays, place_stays}
-use Rattle.lc_core.proofs.PageImages.{pages_set}
-use Rattle.lc_core.proofs.PageTurns.{called_apart, settled_beside}
-use Rattle.lc_core.proofs.PageWrites.{SameAt}
+use Rattle.lc_settled.specs.Numbers.{Numbers}
+use Rattle.lc_desk.specs.Pages.{FitsArea, FitsPages}
+use Rattle.lc_events.specs.Paging.{HaltsFailed}
+use Rattle.lc_settled.specs.Turns.{numbers_after}
+use Rattle.lc_desk.specs.declared.pages.Pages.{Pages}
+use Rattle.lc_journal.proofs.Halting.{halted_stays, place_stays}
+use Rattle.lc_desk.proofs.PageImages.{pages_set}
+use Rattle.lc_desk.proofs.PageTurns.{called_apart, settled_beside}
+use Rattle.lc_desk.proofs.PageWrites.{SameAt}
 
 -- of another segment the numbers say the same
 turned_apart : (m : Setting) (s : State) (x : Numbers) (n segment page other beside : ℕ) → other ≢ segment → (reply : Reply) → SameAt other beside x (numbers_after m s x (PageStep n segment page) reply)

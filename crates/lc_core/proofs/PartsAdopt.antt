@@ -28,12 +28,12 @@ use Rattle.lc_rest.specs.Parts.{AreHonest, AreSpelled}
 use Rattle.lc_core.specs.Adoption.{IsAdoption}
 use Rattle.lc_core.specs.World.{FitsPhase}
 use Rattle.lc_rest.specs.declared.node_part.NodePart.{NodePart}
-use Rattle.lc_core.specs.declared.node_piece.NodePiece.{NodePiece}
+use Rattle.lc_journal.specs.declared.node_piece.NodePiece.{NodePiece}
 use Rattle.lc_rest.specs.declared.parts.Parts.{Parts}
 use Rattle.lc_core.specs.declared.world_phase.WorldPhase.{WorldPhase}
 use Rattle.lc_core.specs.declared.world_phase.WorldPhase.TheVariants.{Up}
 use Rattle.lc_rest.specs.declared.segment_part.SegmentPart.{SegmentPart}
-use Rattle.lc_core.specs.declared.segment_pieces.SegmentPieces.{SegmentPieces}
+use Rattle.lc_desk.specs.declared.segment_pieces.SegmentPieces.{SegmentPieces}
 use Rattle.lc_core.specs.declared.up.Up.{Up as UpStore}
 use Rattle.lc_core.specs.declared.world.World.{World}
 use Rattle.lc_core.proofs.Adoptions.{at_here}

@@ -22,15 +22,15 @@ use Rattle.lc_rest.specs.Passed.{Read, log_of}
 use Rattle.lc_rest.specs.declared.holder.Holder.{Holder}
 use Rattle.lc_core.specs.Adopting.{IsAdoptedToken}
 use Rattle.lc_rest.specs.AtRest.{AreReadAreas}
-use Rattle.lc_core.specs.Built.{IsPieceOf}
-use Rattle.lc_core.specs.Kept.{closed_record}
+use Rattle.lc_reading.specs.Built.{IsPieceOf}
+use Rattle.lc_journal.specs.Kept.{closed_record}
 use Rattle.lc_core.specs.Made.{AreFound, IsFoundArea, IsFoundNode, IsFoundSegment}
 use Rattle.lc_rest.specs.Parts.{AreHonest}
-use Rattle.lc_core.specs.Records.{KeptRecords, marks_of}
-use Rattle.lc_core.specs.declared.node_piece.NodePiece.{NodePiece}
+use Rattle.lc_journal.specs.Records.{KeptRecords, marks_of}
+use Rattle.lc_journal.specs.declared.node_piece.NodePiece.{NodePiece}
 use Rattle.lc_rest.specs.declared.parts.Parts.{Parts}
-use Rattle.lc_core.specs.declared.segment_piece.SegmentPiece.{SegmentPiece}
-use Rattle.lc_core.specs.declared.segment_pieces.SegmentPieces.{SegmentPieces}
+use Rattle.lc_desk.specs.declared.segment_piece.SegmentPiece.{SegmentPiece}
+use Rattle.lc_desk.specs.declared.segment_pieces.SegmentPieces.{SegmentPieces}
 use Rattle.lc_core.proofs.Adopts.{segment-last}
 use Rattle.lc_core.proofs.Adoptions.{at_here}
 use Rattle.lc_core.proofs.OneSpelling.{one_spelling}

@@ -26,15 +26,16 @@ use Rattle.lc_rest.specs.TokenTest.{count_on}
 use Rattle.lc_rest.specs.declared.holder.Holder.{Holder}
 use Rattle.lc_rest.specs.declared.holder.Holder.TheVariants.{Here, Left}
 use Rattle.lc_rest.specs.AtRest.{IsReadLog, IsReadOf, PassesAll}
-use Rattle.lc_core.specs.Built.{IsBuiltOf, IsPieceOf}
+use Rattle.lc_core.specs.Built.{IsBuiltOf}
+use Rattle.lc_reading.specs.Built.{IsPieceOf}
 use Rattle.lc_rest.specs.Parts.{AreKept, IsKnownClean}
-use Rattle.lc_core.specs.Pieces.{is_here}
+use Rattle.lc_desk.specs.Pieces.{is_here}
 use Rattle.lc_rest.specs.declared.node_part.NodePart.{NodePart}
-use Rattle.lc_core.specs.declared.node_piece.NodePiece.{NodePiece}
+use Rattle.lc_journal.specs.declared.node_piece.NodePiece.{NodePiece}
 use Rattle.lc_rest.specs.declared.parts.Parts.{Parts}
 use Rattle.lc_rest.specs.declared.segment_part.SegmentPart.{SegmentPart}
-use Rattle.lc_core.specs.declared.segment_piece.SegmentPiece.{SegmentPiece}
-use Rattle.lc_core.specs.declared.segment_pieces.SegmentPieces.{SegmentPieces}
+use Rattle.lc_desk.specs.declared.segment_piece.SegmentPiece.{SegmentPiece}
+use Rattle.lc_desk.specs.declared.segment_pieces.SegmentPieces.{SegmentPieces}
 use Rattle.lc_core.proofs.Adoptions.{at_here}
 use Rattle.lc_core.proofs.OneSpelling.{one_spelling}
 use Rattle.lc_core.proofs.StableCounts.{stable_within}

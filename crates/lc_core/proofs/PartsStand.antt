@@ -31,12 +31,12 @@ use Rattle.lc_rest.proofs.Standing.{transactions_of}
 use Rattle.lc_rest.proofs.Testing.{consistent}
 use Rattle.lc_rest.proofs.Values.{value-put}
 use Rattle.lc_rest.proofs.Within.{sets-lock, stable-counted}
-use Rattle.lc_core.specs.Built.{IsPieceOf}
-use Rattle.lc_core.specs.Slots.{segment_to}
-use Rattle.lc_core.specs.declared.node_piece.NodePiece.{NodePiece}
+use Rattle.lc_reading.specs.Built.{IsPieceOf}
+use Rattle.lc_desk.specs.Slots.{segment_to}
+use Rattle.lc_journal.specs.declared.node_piece.NodePiece.{NodePiece}
 use Rattle.lc_rest.specs.declared.parts.Parts.{Parts}
-use Rattle.lc_core.specs.declared.segment_piece.SegmentPiece.{SegmentPiece}
-use Rattle.lc_core.specs.declared.segment_pieces.SegmentPieces.{SegmentPieces}
+use Rattle.lc_desk.specs.declared.segment_piece.SegmentPiece.{SegmentPiece}
+use Rattle.lc_desk.specs.declared.segment_pieces.SegmentPieces.{SegmentPieces}
 use Rattle.lc_core.proofs.PartsPass.{Agree, parts_pass, tame}
 use Rattle.lc_core.proofs.StableCounts.{stable_counted}
 use Rattle.lc_core.proofs.UpToNumber.{up_to_number}

@@ -1,47 +1,32 @@
 -- What stands in a store that is made of pieces.
-use Rattle.std.proofs.Common.{◌≡◌, ℕ, zero, suc, ◌+◌, ◌-◌, ◌++◌, ◌*◌, true, false, List, [], ◌∷◌, length, Option, Some, None, refl, sym, ap, subst, ◌∙◌, inl, inr, arith}
+use Rattle.std.proofs.Common.{◌≡◌, ℕ, ◌+◌, ◌-◌, ◌*◌, true, false, List, length, Option, Some, None, refl, sym, ap, subst, ◌∙◌, inl, inr, arith}
 use Rattle.std.specs.Option.{ForSome}
 use Rattle.std.specs.Prelude.{option_map, slice_get, if◌then◌else◌}
 use Rattle.std.proofs.lemmas.Bool.{cases_eq, cases_lt, eq-eqb, le-ltb, lt-ltb, ne_eqb}
 use Rattle.std.proofs.lemmas.List.{length-replicate}
 use Rattle.std.proofs.lemmas.Option.{slice_get_within}
 use Rattle.lc_disk.specs.declared.area.Area.{Ghosts}
-use Rattle.lc_record.specs.Content.{put}
 use Rattle.lc_record.specs.declared.geometry.Geometry.{Geometry}
 use Rattle.lc_record.proofs.ListLemmas.{slice_get_some as some_at, slice_get-map_some as get-map}
 use Rattle.lc_rest.specs.declared.holder.Holder.{Holder}
 use Rattle.lc_rest.specs.declared.holder.Holder.TheVariants.{Here, Left}
 use Rattle.lc_token.specs.declared.token.Token.{Token}
 use Rattle.lc_core.specs.Devices.{HaveLogs, HaveSegments}
-use Rattle.lc_core.specs.Log.{area_of}
-use Rattle.lc_core.specs.Nodes.{AreWhole}
+use Rattle.lc_journal.specs.Log.{area_of}
+use Rattle.lc_events.specs.Nodes.{AreWhole}
 use Rattle.lc_core.specs.Pages.{areas_of}
 use Rattle.lc_core.specs.Made.{AreSegments}
-use Rattle.lc_core.specs.Pieces.{AreLeftAt, AreLeftBy, AreMadeNodes, AreNodePieces, AreTokens, IsMadeNode, IsMadeSlot, IsTokenOf, bytes_of, is_before, is_here, left_at, left_by, standing_at}
-use Rattle.lc_core.specs.Places.{same_some}
-use Rattle.lc_core.specs.Records.{KeptRecords, Spelled, closed_at, closing, count_of}
-use Rattle.lc_core.specs.Seat.{Free}
-use Rattle.lc_core.specs.declared.log.Log.{Log}
-use Rattle.lc_core.specs.declared.node_state.NodeState.{NodeState}
-use Rattle.lc_core.specs.declared.node_piece.NodePiece.{NodePiece}
-use Rattle.lc_core.specs.declared.pages.Pages.{Pages}
-use Rattle.lc_core.specs.declared.segment_piece.SegmentPiece.{SegmentPiece}
-use Rattle.lc_core.proofs.Spans.{closed_in}
-
--- bytes that are put over as many are there alone
-pub put_whole : (items old : List ℕ) → length items ≡ length old → put 0 items old ≡ items
-put_whole [] [] same = refl
-put_whole [] (o ∷ os) same = absurd (omega (arith, same))
-put_whole (i ∷ is) [] same = absurd (omega (arith, same))
-put_whole (i ∷ is) (o ∷ os) same = ap (λ (l : List ℕ). i ∷ l) (put_whole is os (omega (arith, same)))
-
--- the bytes that stand somewhere are a segment's
-pub bytes_long : (n : ℕ) (piece : SegmentPiece) (standing : Option Token) → length piece.bytes.items ≡ n → length piece.stable_bytes.items ≡ n → length (bytes_of piece standing) ≡ n
-bytes_long n piece None all stable = stable
-bytes_long n piece (Some token) all stable = all
-
-pub some_left : (P : Token → Type 0) (node : ℕ) (holder : Holder) (token : Option Token) → ForSome token P → ForSome (left_at node holder token) P
-some_left P node holder token its = elim (is_here node holder) as (λ b. ForSome (if b then None else token) P) [ true ↦ (λ t none. absurd cc) | false ↦ its ]
+use Rattle.lc_desk.specs.Pieces.{AreLeftAt, AreTokens, IsMadeSlot, IsTokenOf, left_at, standing_at}
+use Rattle.lc_core.specs.Pieces.{AreLeftBy, AreMadeNodes, AreNodePieces, is_before, left_by}
+use Rattle.lc_events.specs.Pieces.{IsMadeNode}
+use Rattle.lc_settled.specs.Places.{same_some}
+use Rattle.lc_desk.specs.Seat.{Free}
+use Rattle.lc_journal.specs.declared.log.Log.{Log}
+use Rattle.lc_events.specs.declared.node_state.NodeState.{NodeState}
+use Rattle.lc_journal.specs.declared.node_piece.NodePiece.{NodePiece}
+use Rattle.lc_desk.specs.declared.pages.Pages.{Pages}
+use Rattle.lc_desk.specs.declared.segment_piece.SegmentPiece.{SegmentPiece}
+use Rattle.lc_desk.proofs.Pieces.{some_left}
 
 pub some_left_by : (P : Token → Type 0) (nodes : ℕ) (holder : Holder) (token : Option Token) → ForSome token P → ForSome (left_by nodes holder token) P
 some_left_by P nodes holder token its = elim (is_before nodes holder) as (λ b. ForSome (if b then None else token) P) [ true ↦ (λ t none. absurd cc) | false ↦ its ]
@@ -152,17 +137,3 @@ left_back m n segments olds tokens news backs same were are left =
     subst (λ (v : ℕ). AreLeftBy v segments tokens backs) same
     (subst (λ (ts : List (Option Token)). AreLeftBy m segments ts backs) were
     (subst (λ (ts : List (Option Token)). AreLeftBy m segments olds ts) (sym are) left))
-
--- A record that is added and closed
-
-closing_last : (n : ℕ) (rs : List Spelled) (words : List ℕ) → n ≡ length rs → closing n (rs ++ record { words = words; closed = false } ∷ []) ≡ rs ++ record { words = words; closed = true } ∷ []
-closing_last zero [] words same = refl
-closing_last zero (r ∷ rs) words same = absurd (omega (arith, same))
-closing_last (suc n) [] words same = absurd (omega (arith, same))
-closing_last (suc n) (r ∷ rs) words same = ap (λ (l : List Spelled). r ∷ l) (closing_last n rs words (omega (arith, same)))
-
-pub closed_last : (number : ℕ) (k : KeptRecords) (words : List ℕ) → number ≡ count_of k
-    → closed_at number (record k { records = k.records ++ record { words = words; closed = false } ∷ [] }) ≡ record k { records = k.records ++ record { words = words; closed = true } ∷ [] }
-closed_last number k words same =
-    closed_in number (record k { records = k.records ++ record { words = words; closed = false } ∷ [] }) (omega (arith, same))
-    ∙ ap (λ (rs : List Spelled). record k { records = rs }) (closing_last (number - k.before) k.records words (omega (arith, same)))

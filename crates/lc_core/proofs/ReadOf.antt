@@ -20,24 +20,24 @@ use Rattle.lc_trunc.specs.KnownClean.{known as known_of}
 use Rattle.lc_rest.specs.AtRest.{AreMerged, AreReadAreas, Fails, HasPart, IsFirst, IsReadLog, IsReadOf, KeepsImages, KeepsOwn, KeepsToken, PassesAll}
 use Rattle.lc_core.specs.Built.{IsBuiltOf}
 use Rattle.lc_core.specs.Cluster.{IsBuilt, IsReadCluster, knowns_of}
-use Rattle.lc_core.specs.Kept.{closed_record}
+use Rattle.lc_journal.specs.Kept.{closed_record}
 use Rattle.lc_rest.specs.Parts.{AreHonest, AreKept}
-use Rattle.lc_core.specs.Places.{same_some}
-use Rattle.lc_core.specs.ReadNodes.{IsReadPart, images_of}
+use Rattle.lc_settled.specs.Places.{same_some}
+use Rattle.lc_reading.specs.ReadNodes.{IsReadPart, images_of}
 use Rattle.lc_record.specs.Lists.{items_of}
-use Rattle.lc_core.specs.Readings.{FailsIn, KeepsAt, KeepsPictures, PassesIn, at_segment, no_token, place_of, read_of, tests_of}
-use Rattle.lc_core.specs.Records.{Spelled}
-use Rattle.lc_core.specs.declared.node_images.NodeImages.{NodeImages}
+use Rattle.lc_reading.specs.Readings.{FailsIn, KeepsAt, KeepsPictures, PassesIn, at_segment, no_token, place_of, read_of, tests_of}
+use Rattle.lc_journal.specs.Records.{Spelled}
+use Rattle.lc_reading.specs.declared.node_images.NodeImages.{NodeImages}
 use Rattle.lc_rest.specs.declared.node_part.NodePart.{NodePart}
-use Rattle.lc_core.specs.declared.node_piece.NodePiece.{NodePiece}
+use Rattle.lc_journal.specs.declared.node_piece.NodePiece.{NodePiece}
 use Rattle.lc_rest.specs.declared.cluster_part.ClusterPart.{ClusterPart}
 use Rattle.lc_rest.specs.declared.cluster_part.ClusterPart.TheVariants.{Seat, Log, Token, Image}
 use Rattle.lc_rest.specs.declared.parts.Parts.{Parts}
 use Rattle.lc_core.specs.declared.read_cluster.ReadCluster.{ReadCluster}
-use Rattle.lc_core.specs.declared.read_parts.ReadParts.{ReadParts}
+use Rattle.lc_reading.specs.declared.read_parts.ReadParts.{ReadParts}
 use Rattle.lc_rest.specs.declared.segment_part.SegmentPart.{SegmentPart}
 use Rattle.lc_core.specs.declared.up.Up.{Up}
-use Rattle.lc_core.proofs.TokenReads.{at_next, length_numbers, number_next}
+use Rattle.lc_reading.proofs.TokenReads.{at_next, length_numbers, number_next}
 
 mapped_or : {A B : Type 0} (f : A → B) (xs : List A) (n : ℕ) (x : A) (d : B) → slice_get xs n ≡ Some x → slice_index_or (map f xs) n d ≡ f x
 mapped_or f xs n x d got = get_or_from_slice_get (map f xs) n (f x) d (get-map f xs n x got)

@@ -18,10 +18,11 @@ use Rattle.lc_page.proofs.StateLemmas.{clean_settled}
 use Rattle.lc_recover.specs.Reads.{AreHonest, AreOfBytes, AllMergeTo, HaveLengths, area_count}
 use Rattle.lc_recover.specs.Recovered.{page_read_of}
 use Rattle.lc_recover.proofs.Images.{count-areas}
-use Rattle.lc_core.proofs.PageWrites.{of_pages, pages_same}
+use Rattle.lc_events.proofs.PageWrites.{of_pages}
+use Rattle.lc_core.proofs.PageWrites.{pages_same}
 use Rattle.lc_core.proofs.PagesTurned.{halts_still}
 use Rattle.lc_core.proofs.Rising.{IsResult, get-replicate, result_of, rises}
-use Rattle.lc_core.proofs.Cohering.{coherent_apart}
+use Rattle.lc_journal.proofs.Cohering.{coherent_apart}
 use Rattle.lc_recover.specs.Recovery.{Recovering, begun, IsDone, TakesMemory, Tells}
 use Rattle.lc_recover.specs.declared.fault.RecoverFault.{RecoverFault}
 use Rattle.lc_recover.specs.declared.fault.RecoverFault.TheVariants.{BadGeometry, Gap, Twice, OutOfSegment, DeviceFault as Failed, NoMemory}
@@ -41,28 +42,30 @@ use Rattle.lc_model.specs.declared.reply.Reply.{Reply}
 use Rattle.lc_model.specs.declared.reply.Reply.TheVariants.{Ok as Accepted, Stepped, Applied, HeldBack, Trimmed, Recovered, Refused, Reset}
 use Rattle.lc_model.specs.Stored.{records_of}
 use Rattle.lc_model.proofs.Keeps.{sound-recovered, sound-first, sound-step}
-use Rattle.lc_core.specs.Faults.{SameDevices}
+use Rattle.lc_events.specs.Faults.{SameDevices}
 use Rattle.lc_core.specs.Fresh.{text_read_of}
-use Rattle.lc_core.specs.Numbers.{Numbers, recovered_numbers}
-use Rattle.lc_core.specs.Running.{FitsRunning}
-use Rattle.lc_core.specs.Settled.{CountsSteps, number_of, open_answer, settled_answer}
-use Rattle.lc_core.specs.Slots.{besides_of}
-use Rattle.lc_core.specs.NodeState.{FitsNode}
-use Rattle.lc_core.specs.Stepping.{FollowsStep, TellsWriting, is_plain, works_up}
-use Rattle.lc_core.specs.Turns.{AreWithin, Turns, closed_with, held_back, kept_numbers, numbers_after}
+use Rattle.lc_settled.specs.Numbers.{Numbers, recovered_numbers}
+use Rattle.lc_events.specs.Running.{FitsRunning}
+use Rattle.lc_settled.specs.Settled.{CountsSteps, number_of, open_answer, settled_answer}
+use Rattle.lc_desk.specs.Slots.{besides_of}
+use Rattle.lc_events.specs.NodeState.{FitsNode}
+use Rattle.lc_events.specs.Stepping.{FollowsStep, TellsWriting, is_plain}
+use Rattle.lc_core.specs.Stepping.{works_up}
+use Rattle.lc_settled.specs.Turns.{AreWithin, Turns, closed_with, held_back, kept_numbers, numbers_after}
 use Rattle.lc_core.specs.Recovering.{ComesUp, RepliesTo}
-use Rattle.lc_core.specs.Pages.{FitsArea, FitsPages, IsAtRest, IsPageAt, areas_of}
+use Rattle.lc_desk.specs.Pages.{FitsArea, FitsPages, IsAtRest, IsPageAt}
+use Rattle.lc_core.specs.Pages.{areas_of}
 use Rattle.lc_core.specs.HonestAreas.{HonestUp}
 use Rattle.lc_core.specs.World.{Begins, BeginsAnew, FitsDown, FitsPhase, FitsUp, FollowsAnyhow, FollowsUp, Leads, LeadsTo, StillFitsUp}
 use Rattle.lc_core.specs.declared.world_phase.WorldPhase.{WorldPhase}
 use Rattle.lc_core.specs.declared.world_phase.WorldPhase.TheVariants.{Down, Up, Taken}
-use Rattle.lc_core.specs.declared.page_state.PageState.{PageState}
-use Rattle.lc_core.specs.declared.page_state.PageState.TheVariants.{AtRest, Failed as HasFailed}
-use Rattle.lc_core.specs.declared.pages.Pages.{Pages}
+use Rattle.lc_desk.specs.declared.page_state.PageState.{PageState}
+use Rattle.lc_desk.specs.declared.page_state.PageState.TheVariants.{AtRest, Failed as HasFailed}
+use Rattle.lc_desk.specs.declared.pages.Pages.{Pages}
 use Rattle.lc_core.specs.declared.up.Up.{Up as Rising}
-use Rattle.lc_core.specs.declared.node_state.NodeState.{NodeState}
-use Rattle.lc_core.specs.declared.running.Running.{Running}
-use Rattle.lc_core.proofs.Slotted.{Stays, slots_stay, stays_where}
+use Rattle.lc_events.specs.declared.node_state.NodeState.{NodeState}
+use Rattle.lc_events.specs.declared.running.Running.{Running}
+use Rattle.lc_events.proofs.Slotted.{Stays, slots_stay, stays_where}
 
 pub stepped_same : (a b : ℕ) → Stepped a ≡ Stepped b → a ≡ b
 stepped_same a b same = ap (λ (reply : Reply). elim reply as (λ (reply : Reply). ℕ) [ Stepped steps ↦ steps | _ ↦ a ]) same

@@ -22,7 +22,7 @@ use Rattle.lc_recover.specs.declared.fault.RecoverFault.TheVariants.{BadGeometry
 use Rattle.lc_recover.specs.declared.progress.Progress.{Progress}
 use Rattle.lc_recover.specs.declared.progress.Progress.TheVariants.{Stepped as HasStepped, Recovered as HasRecovered}
 use Rattle.lc_core.specs.Anew.{StartsAnew}
-use Rattle.lc_core.specs.Places.{same_some}
+use Rattle.lc_settled.specs.Places.{same_some}
 use Rattle.lc_recover.specs.Fault.{refusal_to}
 use Rattle.lc_core.specs.Recovering.{RepliesTo}
 use Rattle.lc_core.specs.Recovers.{AnswersRecovery, RecoversDown, RefusesAtOnce, at_once, is_recovery}
@@ -31,10 +31,6 @@ use Rattle.lc_core.specs.declared.world_phase.WorldPhase.TheVariants.{Down, Up, 
 use Rattle.lc_core.specs.declared.up.Up.{Up as Rising}
 use Rattle.lc_core.proofs.Anew.{starts_anew}
 use Rattle.lc_core.proofs.Recoveries.{down_same, if_ok_at, stepped_same}
-
-pub IfOk-any : {A E : Type 0} {P : A → Type 0} (result : Result A E) → ((x : A) → P x) → IfOk result P
-IfOk-any (Ok x) all = all x
-IfOk-any (Err fault) all = tt
 
 pub no_recovery : (event : Event) → (event ≡ RecoverStep → ⊥) → is_recovery event ≡ false
 no_recovery (Begin node thread segments reading) other = refl

@@ -39,25 +39,26 @@ use Rattle.lc_model.proofs.Recovered.{renewed-fits}
 use Rattle.lc_recover.specs.Reads.{AllMergeTo, AreHonest, AreImages, AreOfBytes, store_of}
 use Rattle.lc_recover.specs.Recovered.{RecoveredStore, page_of, page_read_of, sequence_of, IsMade}
 use Rattle.lc_recover.proofs.Images.{get-counting, in-segment, own-image}
-use Rattle.lc_core.specs.Desk.{FitsDesk, FitsSeat}
-use Rattle.lc_core.specs.Fresh.{segment_bytes, fresh_token, text_read_of, IsFresh, IsFreshNode}
-use Rattle.lc_core.specs.Here.{beside, hidden, image_at, number_at, number_in, the_images}
-use Rattle.lc_core.specs.Journal.{FitsLog}
-use Rattle.lc_core.specs.Log.{Stands, HasReset, is_failed, is_idle}
-use Rattle.lc_core.specs.NodeState.{FitsNode}
-use Rattle.lc_core.specs.Numbers.{Numbers, recovered_numbers}
-use Rattle.lc_core.specs.Places.{same_some}
-use Rattle.lc_core.specs.Records.{KeptRecords}
-use Rattle.lc_core.specs.Running.{FitsRunning, FitsTravelling}
-use Rattle.lc_core.specs.Slots.{Awaits, Besides, FitsSlot, FitsSlots, FitsToken, besides_of}
-use Rattle.lc_core.specs.declared.here.Here.{Here}
-use Rattle.lc_core.specs.declared.log.Log.{Log}
-use Rattle.lc_core.specs.declared.log.Log.TheVariants.{Idle, Written, Synced, Opened, Sealed, Closing, Emptied, Failed, Torn, Taken}
-use Rattle.lc_core.specs.declared.node_state.NodeState.{NodeState}
-use Rattle.lc_core.specs.declared.running.Running.{Running}
-use Rattle.lc_core.specs.Seat.{Seat, Free}
-use Rattle.lc_core.specs.declared.segment_copy.SegmentCopy.{SegmentCopy}
-use Rattle.lc_core.proofs.Cohering.{coherent_fresh}
+use Rattle.lc_desk.specs.Desk.{FitsDesk, FitsSeat}
+use Rattle.lc_desk.specs.Fresh.{segment_bytes, fresh_token}
+use Rattle.lc_core.specs.Fresh.{text_read_of, IsFresh, IsFreshNode}
+use Rattle.lc_desk.specs.Here.{beside, hidden, image_at, number_at, number_in, the_images}
+use Rattle.lc_journal.specs.Journal.{FitsLog}
+use Rattle.lc_journal.specs.Log.{Stands, HasReset, is_failed, is_idle}
+use Rattle.lc_events.specs.NodeState.{FitsNode}
+use Rattle.lc_settled.specs.Numbers.{Numbers, recovered_numbers}
+use Rattle.lc_settled.specs.Places.{same_some}
+use Rattle.lc_journal.specs.Records.{KeptRecords}
+use Rattle.lc_events.specs.Running.{FitsRunning, FitsTravelling}
+use Rattle.lc_desk.specs.Slots.{Awaits, Besides, FitsSlot, FitsSlots, FitsToken, besides_of}
+use Rattle.lc_desk.specs.declared.here.Here.{Here}
+use Rattle.lc_journal.specs.declared.log.Log.{Log}
+use Rattle.lc_journal.specs.declared.log.Log.TheVariants.{Idle, Written, Synced, Opened, Sealed, Closing, Emptied, Failed, Torn, Taken}
+use Rattle.lc_events.specs.declared.node_state.NodeState.{NodeState}
+use Rattle.lc_events.specs.declared.running.Running.{Running}
+use Rattle.lc_desk.specs.Seat.{Seat, Free}
+use Rattle.lc_desk.specs.declared.segment_copy.SegmentCopy.{SegmentCopy}
+use Rattle.lc_journal.proofs.Cohering.{coherent_fresh}
 
 -- Lists
 

@@ -3,8 +3,6 @@ use Rattle.std.proofs.Common.{◌≡◌, ap, ◌∙◌}
 use Rattle.std.specs.Prelude.{Err, IsErrAnd, Result}
 use Rattle.std.proofs.lemmas.Result.{err_from_is_err_and}
 use Rattle.lc_rest.specs.declared.adopt_fault.AdoptFault.{AdoptFault}
-use Rattle.lc_rest.specs.declared.adopt_fault.AdoptFault.TheVariants.{Mismatch}
-use Rattle.lc_rest.specs.declared.cluster_part.ClusterPart.{ClusterPart}
 
 -- what is answered is what a call answered
 pub same_fault : {A B : Type 0} (res : Result A AdoptFault) (fault other : AdoptFault) → IsErrAnd res (λ y. y ≡ fault) → res ≡ Err other → ◌≡◌ {A = Result B AdoptFault} (Err fault) (Err other)
@@ -13,6 +11,3 @@ same_fault res fault other is are =
     let first : res ≡ Err fault = p.1 ∙ ap (λ (f : AdoptFault). Err f) p.2 in
     let same : fault ≡ other = cc in
     ap (λ (f : AdoptFault). Err f) same
-
-pub same_part : {A : Type 0} (one other : ClusterPart) → ◌≡◌ {A = Result A AdoptFault} (Err (Mismatch one)) (Err (Mismatch other)) → one ≡ other
-same_part one other is = cc

@@ -12,10 +12,11 @@ use Rattle.lc_model.specs.declared.reply.Reply.{Reply}
 use Rattle.lc_core.specs.CallReplies.{calls_area}
 use Rattle.lc_core.specs.Calls.{CallsArea, CallsWhere, KeepsAreas}
 use Rattle.lc_core.specs.HonestAreas.{HonestUp}
-use Rattle.lc_core.specs.Log.{area_of}
+use Rattle.lc_journal.specs.Log.{area_of}
 use Rattle.lc_core.specs.Pages.{areas_of}
-use Rattle.lc_core.specs.Places.{get_set_other, get_set_same, same_some}
-use Rattle.lc_core.specs.declared.node_state.NodeState.{NodeState}
+use Rattle.lc_desk.specs.Places.{get_set_other, get_set_same}
+use Rattle.lc_settled.specs.Places.{same_some}
+use Rattle.lc_events.specs.declared.node_state.NodeState.{NodeState}
 use Rattle.lc_core.specs.declared.world_phase.WorldPhase.TheVariants.{Up}
 use Rattle.lc_core.specs.declared.up.Up.{Up as Rising}
 use Rattle.lc_core.proofs.Devices.{log_area_of}

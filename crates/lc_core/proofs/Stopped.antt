@@ -24,14 +24,14 @@ use Rattle.lc_model.proofs.Keeps.{sound-step}
 use Rattle.lc_core.specs.Areas.{AreOf, AreStopped}
 use Rattle.lc_core.specs.HonestAreas.{HonestUp}
 use Rattle.lc_core.specs.Faults.{area_failures, phase_failures}
-use Rattle.lc_core.specs.Log.{area_of}
-use Rattle.lc_core.specs.Numbers.{Numbers}
+use Rattle.lc_journal.specs.Log.{area_of}
+use Rattle.lc_settled.specs.Numbers.{Numbers}
 use Rattle.lc_core.specs.Pages.{areas_of}
-use Rattle.lc_core.specs.Settled.{settled_answer}
+use Rattle.lc_settled.specs.Settled.{settled_answer}
 use Rattle.lc_core.specs.Stops.{AreLeftBy, HasAreas, IsLeftBy, StopsAll}
 use Rattle.lc_core.specs.World.{FitsDown, FitsPhase, Leads}
-use Rattle.lc_core.specs.declared.node_state.NodeState.{NodeState}
-use Rattle.lc_core.specs.declared.pages.Pages.{Pages}
+use Rattle.lc_events.specs.declared.node_state.NodeState.{NodeState}
+use Rattle.lc_desk.specs.declared.pages.Pages.{Pages}
 use Rattle.lc_core.specs.declared.world_phase.WorldPhase.{WorldPhase}
 use Rattle.lc_core.specs.declared.world_phase.WorldPhase.TheVariants.{Down, Up, Taken}
 use Rattle.lc_core.specs.declared.up.Up.{Up as Rising}

@@ -7,7 +7,8 @@ use Rattle.lc_model.specs.declared.event.Event.TheVariants.{FlushStep, PageStep}
 use Rattle.lc_model.specs.declared.refusal.Refusal.{Refusal}
 use Rattle.lc_model.specs.declared.reply.Reply.{Reply}
 use Rattle.lc_model.specs.declared.reply.Reply.TheVariants.{Ok as IsDone, Bytes, Reserved, Ended, Stepped, Acked, Nothing, Applied, HeldBack, Ignored, Trimmed, Written, Reset, Down as IsDown, Recovered, Refused}
-use Rattle.lc_core.specs.Truncating.{AsksFirst, ending, CallsDue, CallsIf, EachFrom, Repeats, Round, StepsTo, WritesSegment, is_due, refusal_in, stopping}
+use Rattle.lc_core.specs.Truncating.{AsksFirst, ending, CallsDue, CallsIf, EachFrom, Repeats, Round, StepsTo, WritesSegment, is_due, stopping}
+use Rattle.lc_events.specs.Truncating.{refusal_in}
 use Rattle.lc_core.specs.Truncation.{IsNext, IsOn, Leads, Then, ThenCleans, ThenResets, WritesAt, WritesFrom, WritesIf}
 use Rattle.lc_record.proofs.ListLemmas.{sub_suc as one_more, sub_none as none_more}
 use Rattle.lc_core.specs.declared.page_cursor.PageCursor.{PageCursor}
@@ -39,24 +40,6 @@ not_stepped Reset not = refl
 not_stepped IsDown not = refl
 not_stepped Recovered not = refl
 not_stepped (Refused refusal) not = refl
-
-pub not_refused : (reply : Reply) → ((refusal : Refusal) → reply ≡ Refused refusal → ⊥) → refusal_in reply ≡ None
-not_refused (Refused refusal) not = absurd (not refusal refl)
-not_refused IsDone not = refl
-not_refused (Bytes bytes) not = refl
-not_refused (Reserved place words) not = refl
-not_refused Ended not = refl
-not_refused (Stepped calls) not = refl
-not_refused (Acked count) not = refl
-not_refused Nothing not = refl
-not_refused (Applied number) not = refl
-not_refused HeldBack not = refl
-not_refused Ignored not = refl
-not_refused (Trimmed count) not = refl
-not_refused (Written number) not = refl
-not_refused Reset not = refl
-not_refused IsDown not = refl
-not_refused Recovered not = refl
 
 pub not_stopping : (reply : Reply) → ((count : ℕ) → reply ≡ Acked count → ⊥) → (reply ≡ Nothing → ⊥) → stopping reply ≡ Some reply
 not_stopping (Acked count) acked nothing = absurd (acked count refl)

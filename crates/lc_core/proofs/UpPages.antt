@@ -5,7 +5,7 @@ use Rattle.std.proofs.lemmas.Bool.{cases_eq}
 use Rattle.std.proofs.lemmas.List.{map-set}
 use Rattle.std.proofs.lemmas.Option.{slice_get-map}
 use Rattle.lc_disk.specs.declared.area.Area.{Ghosts}
-use Rattle.lc_core.specs.CallReplies.{CalledAs}
+use Rattle.lc_events.specs.CallReplies.{CalledAs}
 use Rattle.lc_model.specs.Machine.{Row}
 use Rattle.lc_model.specs.Refusals.{Unless, common_refusal}
 use Rattle.lc_model.specs.State.{Setting, State}
@@ -17,21 +17,26 @@ use Rattle.lc_model.specs.declared.reply.Reply.{Reply}
 use Rattle.lc_model.specs.declared.reply.Reply.TheVariants.{Refused}
 use Rattle.lc_model.proofs.Rows.{step-row}
 use Rattle.lc_core.specs.Devices.{HavePages, HaveSegments}
-use Rattle.lc_core.specs.FaultReplies.{CountsFaults, is_device_fault, is_fault, device_kind}
-use Rattle.lc_core.specs.Faults.{SameDevices, SameLogAreas, area_failures, log_failures, logs_of}
-use Rattle.lc_core.specs.Log.{area_of}
-use Rattle.lc_core.specs.Numbers.{Numbers}
-use Rattle.lc_core.specs.Pages.{FitsArea, FitsPages, areas_of}
-use Rattle.lc_core.specs.Paging.{FollowsPaging, HaltAll, HaltsFailed}
-use Rattle.lc_core.specs.Places.{get_set_other, get_set_same, same_map_set, same_some}
-use Rattle.lc_core.specs.Refuses.{Refuses}
-use Rattle.lc_core.specs.Settled.{open_answer}
-use Rattle.lc_core.specs.Turns.{Turns, numbers_after}
-use Rattle.lc_core.specs.Running.{FitsRunning}
+use Rattle.lc_events.specs.FaultReplies.{CountsFaults}
+use Rattle.lc_journal.specs.FaultReplies.{is_device_fault, device_kind}
+use Rattle.lc_events.specs.Faults.{SameDevices, SameLogAreas, log_failures, logs_of}
+use Rattle.lc_core.specs.Faults.{area_failures}
+use Rattle.lc_journal.specs.Log.{area_of}
+use Rattle.lc_settled.specs.Numbers.{Numbers}
+use Rattle.lc_desk.specs.Pages.{FitsArea, FitsPages}
+use Rattle.lc_core.specs.Pages.{areas_of}
+use Rattle.lc_events.specs.Paging.{FollowsPaging, HaltsFailed}
+use Rattle.lc_core.specs.Paging.{HaltAll}
+use Rattle.lc_desk.specs.Places.{get_set_other, get_set_same, same_map_set}
+use Rattle.lc_settled.specs.Places.{same_some}
+use Rattle.lc_events.specs.Refuses.{Refuses}
+use Rattle.lc_settled.specs.Settled.{open_answer}
+use Rattle.lc_settled.specs.Turns.{Turns, numbers_after}
+use Rattle.lc_events.specs.Running.{FitsRunning}
 use Rattle.lc_core.specs.World.{FitsUp, FollowsUp, LeadsTo}
-use Rattle.lc_core.specs.declared.log.Log.{Log}
-use Rattle.lc_core.specs.declared.pages.Pages.{Pages}
-use Rattle.lc_core.specs.declared.running.Running.{Running}
+use Rattle.lc_journal.specs.declared.log.Log.{Log}
+use Rattle.lc_desk.specs.declared.pages.Pages.{Pages}
+use Rattle.lc_events.specs.declared.running.Running.{Running}
 use Rattle.lc_core.specs.declared.up.Up.{Up as Rising}
 use Rattle.lc_core.proofs.CallsTold.{as_failed}
 use Rattle.lc_core.proofs.PagesTurned.{halts_still, pages_turned}

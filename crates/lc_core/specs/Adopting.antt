@@ -15,18 +15,18 @@ use Rattle.lc_page.specs.Page.{page_in}
 use Rattle.lc_page.specs.PageWrite.{SettledIn}
 use Rattle.lc_rest.specs.Found.{Found, last_number, machine_disks, machine_setting, machine_state, own_records}
 use Rattle.lc_core.specs.Devices.{HonestLogs}
-use Rattle.lc_core.specs.Log.{Stands, is_idle}
+use Rattle.lc_journal.specs.Log.{Stands, is_idle}
 use Rattle.lc_rest.specs.Pages.{as_read}
 use Rattle.lc_core.specs.PageState.{resting}
-use Rattle.lc_core.specs.declared.pages.Pages.{Pages}
+use Rattle.lc_desk.specs.declared.pages.Pages.{Pages}
 use Rattle.lc_core.specs.declared.up.Up.{Up as UpStore}
-use Rattle.lc_core.specs.Numbers.{Numbers}
-use Rattle.lc_core.specs.Records.{marks_of as closing_marks}
-use Rattle.lc_core.specs.Slots.{segment_to}
-use Rattle.lc_core.specs.declared.node_state.NodeState.{NodeState}
-use Rattle.lc_core.specs.declared.running.Running.{Running}
-use Rattle.lc_core.specs.Seat.{Free}
-use Rattle.lc_core.specs.declared.segment_copy.SegmentCopy.{SegmentCopy}
+use Rattle.lc_settled.specs.Numbers.{Numbers}
+use Rattle.lc_journal.specs.Records.{marks_of as closing_marks}
+use Rattle.lc_desk.specs.Slots.{segment_to}
+use Rattle.lc_events.specs.declared.node_state.NodeState.{NodeState}
+use Rattle.lc_events.specs.declared.running.Running.{Running}
+use Rattle.lc_desk.specs.Seat.{Free}
+use Rattle.lc_desk.specs.declared.segment_copy.SegmentCopy.{SegmentCopy}
 
 -- the numbers beside the state that it stands for
 abbrev pub numbers_of : Found → Numbers

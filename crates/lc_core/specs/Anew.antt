@@ -3,8 +3,8 @@ use Rattle.std.specs.Prelude.{◌≡◌, ℕ}
 use Rattle.lc_disk.specs.declared.area.Area.{Ghosts}
 use Rattle.lc_record.specs.Content.{Content}
 use Rattle.lc_record.specs.declared.geometry.Geometry.{Geometry}
-use Rattle.lc_model.specs.State.{Setting, first_state}
-use Rattle.lc_core.specs.Numbers.{Numbers}
+use Rattle.lc_model.specs.State.{first_state}
+use Rattle.lc_settled.specs.Numbers.{Numbers}
 use Rattle.lc_core.specs.World.{FitsPhase}
 use Rattle.lc_core.specs.declared.world_phase.WorldPhase.{WorldPhase}
 

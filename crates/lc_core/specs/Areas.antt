@@ -3,9 +3,9 @@ use Rattle.std.specs.Prelude.{◌≡◌, ℕ, true, List, length, drop, Some, sl
 use Rattle.lc_disk.specs.Area.{IsClean, IsImage}
 use Rattle.lc_disk.specs.declared.area.Area.{Ghosts}
 use Rattle.lc_recover.specs.Reads.{area_count}
-use Rattle.lc_core.specs.Log.{area_of}
+use Rattle.lc_journal.specs.Log.{area_of}
 use Rattle.lc_core.specs.Pages.{areas_of}
-use Rattle.lc_core.specs.declared.node_state.NodeState.{NodeState}
+use Rattle.lc_events.specs.declared.node_state.NodeState.{NodeState}
 use Rattle.lc_core.specs.declared.up.Up.{Up}
 
 module _ {D : Type 0} (a : Ghosts D) where

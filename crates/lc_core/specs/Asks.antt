@@ -10,9 +10,9 @@ use Rattle.lc_model.specs.Refusals.{common_refusal, is_up, read_refusal, set_ran
 use Rattle.lc_model.specs.State.{State, Setting, running_of}
 use Rattle.lc_model.specs.declared.event.Event.{Event}
 use Rattle.lc_model.specs.declared.event.Event.TheVariants.{SetRange, Read, Reserve, Deliver, RecoverStep}
-use Rattle.lc_core.specs.Delivers.{CopiesPart}
-use Rattle.lc_core.specs.Numbers.{Numbers}
-use Rattle.lc_core.specs.Prepares.{GetsPlace}
+use Rattle.lc_events.specs.Delivers.{CopiesPart}
+use Rattle.lc_settled.specs.Numbers.{Numbers}
+use Rattle.lc_desk.specs.Prepares.{GetsPlace}
 
 -- the thread's open transaction may set the range, and some position of it is not set yet
 pub record SetsMore (m : Setting) (s : State) (node thread segment offset len : ℕ) : Type 0 where

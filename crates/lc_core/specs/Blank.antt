@@ -1,75 +1,14 @@
 -- What stands ready before the pages of a store are known, and how its nodes are filled with them.
-use Rattle.std.specs.Prelude.{◌≡◌, ◌≤◌, ℕ, ◌+◌, ◌%◌, ◌==◌, List, [], length, replicate, is_some, Some, slice_get}
-use Rattle.std.specs.Option.{ForSome}
+use Rattle.std.specs.Prelude.{◌≡◌, ℕ, List, Some, slice_get}
 use Rattle.lc_disk.specs.declared.area.Area.{Ghosts}
-use Rattle.lc_record.specs.Geometry.{segment_len}
 use Rattle.lc_record.specs.declared.geometry.Geometry.{Geometry}
 use Rattle.lc_recover.specs.Recovered.{RecoveredStore}
-use Rattle.lc_tx.specs.declared.holders.Holders.TheVariants.{Free as Unheld}
-use Rattle.lc_trunc.specs.KnownClean.{KnowsNothing, known as known_of}
-use Rattle.lc_core.specs.Fresh.{IsFreshSlot, known_first}
-use Rattle.lc_core.specs.declared.desk.Desk.{Desk}
-use Rattle.lc_core.specs.declared.journal.Journal.{Journal}
-use Rattle.lc_core.specs.declared.node_state.NodeState.{NodeState}
-use Rattle.lc_core.specs.Seat.{Free}
-use Rattle.lc_core.specs.declared.segment_copy.SegmentCopy.{SegmentCopy}
-
--- a slot of a segment: as many bytes, which no transaction holds, an entry for each page where the token is, and no part
-pub record IsOfSegment (g : Geometry) (segment : ℕ) (slot : SegmentCopy) : Type 0 where
-  pub len : length slot.image.bytes.items ≡ segment_len g
-  pub holders : slot.image.holders ≡ Unheld
-  pub token : slot.token.segment ≡ segment
-  pub pages : ForSome slot.token.token (λ token. length token.pages ≡ g.pages)
-  pub parts : slot.parts.segment ≡ segment
-  pub none_due : slot.parts.due ≡ []
-
-abbrev pub AreOfSegments : Geometry → List SegmentCopy → Type 0
-AreOfSegments g slots = (k : ℕ) (slot : SegmentCopy) → slice_get slots k ≡ Some slot → IsOfSegment g (k + 1) slot
-
--- its token stands at the node that is the rest of its segment by their number, and only there
-abbrev pub StandsAt : Geometry → ℕ → ℕ → SegmentCopy → Type 0
-StandsAt g node segment slot = is_some slot.token.token ≡ (segment % g.nodes == node)
-
-abbrev pub StandAt : Geometry → ℕ → List SegmentCopy → Type 0
-StandAt g node slots = (k : ℕ) (slot : SegmentCopy) → slice_get slots k ≡ Some slot → StandsAt g node (k + 1) slot
-
--- no thread does anything
-pub record IsBlankDesk (g : Geometry) (desk : Desk) : Type 0 where
-  pub seats : desk.seats.items ≡ replicate g.threads Free
-  pub count : length desk.here.slots.items ≡ g.segments
-  pub slots : AreOfSegments g desk.here.slots.items
-  pub spare : desk.here.spare.bytes.items ≡ []
-
-module _ {D : Type 0} where
-  abbrev pub AreFreshSlots : RecoveredStore D → ℕ → List SegmentCopy → Type 0
-  AreFreshSlots r node slots = (k : ℕ) (slot : SegmentCopy) → slice_get slots k ≡ Some slot → IsFreshSlot r node (k + 1) slot
+use Rattle.lc_events.specs.declared.node_state.NodeState.{NodeState}
+use Rattle.lc_events.specs.Blank.{IsBlankNode, IsFilledNode}
 
 module _ {D : Type 0} (a : Ghosts D) where
-  -- no record, and room for as many words as there are
-  pub record IsBlankJournal (g : Geometry) (journal : Journal D a) : Type 0 where
-    pub room : journal.group.room ≡ g.words
-    pub records : journal.records ≡ record { before = 0; records = [] }
-    pub dropped : journal.dropped ≡ 0
-    pub trimmed : journal.trimmed ≡ 0
-    pub taken : journal.taken ≡ 0
-    pub acked : journal.acked ≡ 0
-    pub round : journal.round ≡ 0
-
-  pub record IsBlankNode (g : Geometry) (n : ℕ) (node : NodeState D a) : Type 0 where
-    pub desk : IsBlankDesk g node.desk
-    pub stand : StandAt g n node.desk.here.slots.items
-    pub journal : IsBlankJournal g node.journal
-    pub known : KnowsNothing node.known
-
   abbrev pub AreBlankNodes : Geometry → List (NodeState D a) → Type 0
-  AreBlankNodes g nodes = (n : ℕ) (node : NodeState D a) → slice_get nodes n ≡ Some node → IsBlankNode g n node
-
-  -- its slots have what the recovery has made of them
-  pub record IsFilledNode (r : RecoveredStore D) (n : ℕ) (node : NodeState D a) : Type 0 where
-    pub desk : IsBlankDesk r.geometry node.desk
-    pub slots : AreFreshSlots r n node.desk.here.slots.items
-    pub journal : IsBlankJournal r.geometry node.journal
-    pub known : (segment : ℕ) → 1 ≤ segment → segment ≤ r.geometry.segments → known_of node.known segment ≡ known_first r n segment
+  AreBlankNodes g nodes = (n : ℕ) (node : NodeState D a) → slice_get nodes n ≡ Some node → (IsBlankNode a) g n node
 
   abbrev pub AreFilledNodes : RecoveredStore D → List (NodeState D a) → Type 0
-  AreFilledNodes r nodes = (n : ℕ) (node : NodeState D a) → slice_get nodes n ≡ Some node → IsFilledNode r n node
+  AreFilledNodes r nodes = (n : ℕ) (node : NodeState D a) → slice_get nodes n ≡ Some node → (IsFilledNode a) r n node

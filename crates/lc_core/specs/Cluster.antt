@@ -5,17 +5,17 @@ use Rattle.lc_disk.specs.declared.area.Area.{Ghosts}
 use Rattle.lc_rest.specs.Found.{Found}
 use Rattle.lc_token.specs.declared.token.Token.{Token}
 use Rattle.lc_core.specs.Adopting.{IsAdoptedUp}
-use Rattle.lc_core.specs.AsRead.{IsAsRead}
-use Rattle.lc_core.specs.Built.{IsPieceOf}
+use Rattle.lc_reading.specs.AsRead.{IsAsRead}
+use Rattle.lc_reading.specs.Built.{IsPieceOf}
 use Rattle.lc_core.specs.Made.{AreFound}
-use Rattle.lc_core.specs.ReadNodes.{AreReadNodes}
-use Rattle.lc_core.specs.Readings.{tests_of}
-use Rattle.lc_core.specs.declared.node_piece.NodePiece.{NodePiece}
+use Rattle.lc_reading.specs.ReadNodes.{AreReadNodes}
+use Rattle.lc_reading.specs.Readings.{tests_of}
+use Rattle.lc_journal.specs.declared.node_piece.NodePiece.{NodePiece}
 use Rattle.lc_rest.specs.declared.parts.Parts.{Parts}
 use Rattle.lc_core.specs.declared.read_cluster.ReadCluster.{ReadCluster}
 use Rattle.lc_rest.specs.declared.segment_part.SegmentPart.{SegmentPart}
-use Rattle.lc_core.specs.declared.segment_piece.SegmentPiece.{SegmentPiece}
-use Rattle.lc_core.specs.declared.segment_pieces.SegmentPieces.{SegmentPieces}
+use Rattle.lc_desk.specs.declared.segment_piece.SegmentPiece.{SegmentPiece}
+use Rattle.lc_desk.specs.declared.segment_pieces.SegmentPieces.{SegmentPieces}
 use Rattle.lc_core.specs.declared.up.Up.{Up}
 
 module _ {D : Type 0} (a : Ghosts D) where

@@ -8,8 +8,8 @@ use Rattle.lc_recover.specs.Recovery.{all_steps}
 use Rattle.lc_core.specs.Answered.{WantsMemory}
 use Rattle.lc_core.specs.Recovers.{RecoversDown}
 use Rattle.lc_core.specs.Truncating.{StepsTo}
-use Rattle.lc_core.specs.declared.call_fault.CallFault.{CallFault}
-use Rattle.lc_core.specs.declared.call_fault.CallFault.TheVariants.{NoMemory, Refused as IsRefused}
+use Rattle.lc_events.specs.declared.call_fault.CallFault.{CallFault}
+use Rattle.lc_events.specs.declared.call_fault.CallFault.TheVariants.{NoMemory, Refused as IsRefused}
 use Rattle.lc_core.specs.declared.world_phase.WorldPhase.{WorldPhase}
 use Rattle.lc_core.specs.declared.world_phase.WorldPhase.TheVariants.{Down, Up, Taken}
 use Rattle.lc_core.specs.declared.world.World.{World}

@@ -1,9 +1,9 @@
 -- The areas of a store that is up: how long they are, that they keep to the model of a disk, and how many pages each has.
 use Rattle.std.specs.Prelude.{◌≡◌, ℕ, true, List, length, Some, option_map, slice_get}
 use Rattle.lc_disk.specs.declared.area.Area.{Ghosts}
-use Rattle.lc_core.specs.Log.{area_of}
-use Rattle.lc_core.specs.declared.node_state.NodeState.{NodeState}
-use Rattle.lc_core.specs.declared.pages.Pages.{Pages}
+use Rattle.lc_journal.specs.Log.{area_of}
+use Rattle.lc_events.specs.declared.node_state.NodeState.{NodeState}
+use Rattle.lc_desk.specs.declared.pages.Pages.{Pages}
 
 module _ {D : Type 0} (a : Ghosts D) where
   -- each node's log has an area of this length

@@ -4,8 +4,8 @@ use Rattle.std.specs.List.{list_any}
 use Rattle.lc_model.specs.Refusals.{is_at, is_up}
 use Rattle.lc_model.specs.Sound.{holders}
 use Rattle.lc_model.specs.State.{State}
-use Rattle.lc_core.specs.Numbers.{Numbers, sets_on, stable}
-use Rattle.lc_core.specs.Settled.{begun_number}
+use Rattle.lc_settled.specs.Numbers.{Numbers, sets_on, stable}
+use Rattle.lc_settled.specs.Settled.{begun_number}
 
 -- the page was changed under a greater number than the one on the disk, or a write of it has begun
 abbrev pub is_unwritten : Numbers → ℕ → ℕ → Bool

@@ -19,9 +19,9 @@ use Rattle.lc_model.specs.declared.event.Event.{Event}
 use Rattle.lc_model.specs.declared.event.Event.TheVariants.{RecoverStep}
 use Rattle.lc_model.specs.declared.reply.Reply.{Reply}
 use Rattle.lc_model.specs.declared.reply.Reply.TheVariants.{Recovered}
-use Rattle.lc_core.specs.FaultReplies.{is_fault}
+use Rattle.lc_journal.specs.FaultReplies.{is_fault}
 use Rattle.lc_core.specs.Observed.{Observed}
-use Rattle.lc_core.specs.Showing.{page_of}
+use Rattle.lc_desk.specs.Showing.{page_of}
 
 -- the cuts that a state knows: each closed one that a stop may make; of a store that is down the one that
 -- its stop made

@@ -15,12 +15,13 @@ use Rattle.lc_model.specs.declared.event.Event.TheVariants.{RecoverStep, Stop}
 use Rattle.lc_model.specs.declared.refusal.Refusal.TheVariants.{Down as IsDown}
 use Rattle.lc_model.specs.declared.reply.Reply.{Reply}
 use Rattle.lc_model.specs.declared.reply.Reply.TheVariants.{Down as HasStopped, Recovered, Refused}
-use Rattle.lc_core.specs.MayReply.{may_recover}
-use Rattle.lc_core.specs.Numbers.{Numbers, recovered_numbers}
-use Rattle.lc_core.specs.Settled.{Settled}
-use Rattle.lc_core.specs.Turns.{Turns}
+use Rattle.lc_events.specs.MayReply.{may_recover}
+use Rattle.lc_settled.specs.Numbers.{Numbers, recovered_numbers}
+use Rattle.lc_settled.specs.Settled.{Settled}
+use Rattle.lc_settled.specs.Turns.{Turns}
 use Rattle.lc_core.specs.Recovers.{RecoversDown, RefusesAtOnce}
-use Rattle.lc_core.specs.Showing.{image_of, page_of}
+use Rattle.lc_core.specs.Showing.{image_of}
+use Rattle.lc_desk.specs.Showing.{page_of}
 use Rattle.lc_core.specs.Stops.{StopsAll}
 use Rattle.lc_core.specs.World.{Begins, FitsUp, FollowsAnyhow}
 use Rattle.lc_core.specs.declared.world_phase.WorldPhase.{WorldPhase}

@@ -15,11 +15,11 @@ use Rattle.lc_trunc.specs.KnownClean.{known as known_of}
 use Rattle.lc_core.specs.Adopting.{IsAdoptedToken}
 use Rattle.lc_core.specs.Pages.{RestsAll, areas_of}
 use Rattle.lc_rest.specs.Pages.{as_read}
-use Rattle.lc_core.specs.Records.{marks_of}
-use Rattle.lc_core.specs.Slots.{segment_to}
-use Rattle.lc_core.specs.declared.node_piece.NodePiece.{NodePiece}
-use Rattle.lc_core.specs.declared.segment_piece.SegmentPiece.{SegmentPiece}
-use Rattle.lc_core.specs.declared.segment_pieces.SegmentPieces.{SegmentPieces}
+use Rattle.lc_journal.specs.Records.{marks_of}
+use Rattle.lc_desk.specs.Slots.{segment_to}
+use Rattle.lc_journal.specs.declared.node_piece.NodePiece.{NodePiece}
+use Rattle.lc_desk.specs.declared.segment_piece.SegmentPiece.{SegmentPiece}
+use Rattle.lc_desk.specs.declared.segment_pieces.SegmentPieces.{SegmentPieces}
 use Rattle.lc_core.specs.declared.up.Up.{Up}
 use Rattle.lc_core.specs.Pieces.{AreLeftBy, AreMadeNodes}
 

@@ -2,15 +2,10 @@
 use Rattle.std.specs.Prelude.{ℕ, Option, None, Some, slice_get}
 use Rattle.lc_disk.specs.declared.area.Area.{Ghosts}
 use Rattle.lc_tx.specs.declared.tx.Tx.{Tx}
-use Rattle.lc_core.specs.Seat.{Seat, open_of}
-use Rattle.lc_core.specs.declared.node_state.NodeState.{NodeState}
+use Rattle.lc_events.specs.declared.node_state.NodeState.{NodeState}
 use Rattle.lc_core.specs.declared.world_phase.WorldPhase.{WorldPhase}
 use Rattle.lc_core.specs.declared.world_phase.WorldPhase.TheVariants.{Down, Up, Taken}
-
--- the transaction that is open at a seat; none where there is no such seat
-abbrev pub open_at : Option Seat → Option Tx
-open_at None = None
-open_at (Some seat) = open_of seat
+use Rattle.lc_desk.specs.OpenTransactions.{open_at}
 
 -- the one that a thread of the node has open; none where there is no such node
 abbrev pub open_in_node : ℕ → {D : Type 0} {a : Ghosts D} → Option (NodeState D a) → Option Tx

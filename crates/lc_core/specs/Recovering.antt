@@ -11,9 +11,9 @@ use Rattle.lc_recover.specs.declared.progress.Progress.TheVariants.{Stepped as H
 use Rattle.lc_model.specs.declared.reply.Reply.{Reply}
 use Rattle.lc_model.specs.declared.reply.Reply.TheVariants.{Stepped, Recovered, Refused}
 use Rattle.lc_core.specs.Fresh.{IsFresh}
-use Rattle.lc_core.specs.Log.{area_of}
+use Rattle.lc_journal.specs.Log.{area_of}
 use Rattle.lc_core.specs.Pages.{RestsAll, areas_of}
-use Rattle.lc_core.specs.declared.node_state.NodeState.{NodeState}
+use Rattle.lc_events.specs.declared.node_state.NodeState.{NodeState}
 use Rattle.lc_core.specs.declared.world_phase.WorldPhase.{WorldPhase}
 use Rattle.lc_core.specs.declared.world_phase.WorldPhase.TheVariants.{Up as IsUp}
 use Rattle.lc_core.specs.declared.up.Up.{Up}

@@ -1,20 +1,18 @@
 -- What it is that a store follows the machine and the numbers over a list of events.
-use Rattle.std.specs.Prelude.{◌≡◌, ◌⊎◌, true, List, [], ◌∷◌, length, take, Some, slice_get}
+use Rattle.std.specs.Prelude.{◌≡◌, ◌⊎◌, true, List, [], length, take, Some, slice_get}
 use Rattle.lc_disk.specs.declared.area.Area.{Ghosts}
 use Rattle.lc_record.specs.Content.{Content}
 use Rattle.lc_record.specs.declared.geometry.Geometry.{Geometry}
 use Rattle.lc_recover.specs.Reads.{AllMergeTo, AreHonest}
-use Rattle.lc_model.specs.Machine.{Step}
 use Rattle.lc_model.specs.Recovered.{zero_content}
 use Rattle.lc_model.specs.State.{Setting, State, first_state}
 use Rattle.lc_model.specs.declared.event.Event.{Event}
 use Rattle.lc_model.specs.declared.reply.Reply.{Reply}
 use Rattle.lc_core.specs.Asks.{EventAsks, may_grow}
-use Rattle.lc_core.specs.Numbers.{Numbers}
-use Rattle.lc_core.specs.Settled.{Settled}
-use Rattle.lc_core.specs.Turns.{Turns}
+use Rattle.lc_settled.specs.Numbers.{Numbers}
 use Rattle.lc_core.specs.World.{FitsWorld}
 use Rattle.lc_core.specs.declared.world.World.{World}
+use Rattle.lc_settled.specs.Runs.{RunsOn}
 
 -- a store of zeros
 abbrev pub of_zeros : Geometry → Setting
@@ -23,15 +21,6 @@ of_zeros g = record { geometry = g; start = zero_content g }
 -- what holds of a run on it
 abbrev pub OnZeros : Geometry → (Setting → Numbers → Type 0) → Type 0
 OnZeros g P = (x : Numbers) → x.disks.numbers ≡ (λ segment. 0) → x.steps ≡ 0 → P (of_zeros g) x
-
--- the machine may give these replies to these events, each is settled, and the numbers turn with them
-abbrev pub RunsOn : Setting → State → Numbers → List Event → List Reply → State → Numbers → Type 0
-RunsOn m s x [] [] after next = (after ≡ s) × (next ≡ x)
-RunsOn m s x (event ∷ events) (reply ∷ replies) after next =
-    (mid : State) × (between : Numbers) × Step m s event reply mid × Settled m s x event reply × Turns m s x event reply between
-    × RunsOn m mid between events replies after next
-RunsOn m s x [] (reply ∷ replies) after next = ⊥
-RunsOn m s x (event ∷ events) [] after next = ⊥
 
 -- from the first state: each reply is settled
 abbrev pub AreSettled : Setting → Numbers → List Event → List Reply → Type 0

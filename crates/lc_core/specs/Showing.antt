@@ -1,39 +1,25 @@
 -- What a node's image of a segment shows.
-use Rattle.std.specs.Prelude.{◌≡◌, ℕ, ◌-◌, ◌*◌, ◌≤◌, List, slice_get, take, drop, find, Option, None, Some, if◌then◌else◌}
+use Rattle.std.specs.Prelude.{◌≡◌, ℕ, ◌-◌, ◌≤◌, List, slice_get, Some, if◌then◌else◌}
 use Rattle.lc_disk.specs.declared.area.Area.{Ghosts}
-use Rattle.lc_record.specs.Content.{Content, segment_of}
-use Rattle.lc_record.specs.Transaction.{Transaction, locks}
-use Rattle.lc_model.specs.History.{value}
-use Rattle.lc_model.specs.Machine.{seen}
+use Rattle.lc_record.specs.Content.{segment_of}
 use Rattle.lc_model.specs.Refusals.{is_at}
 use Rattle.lc_model.specs.State.{Setting, State}
-use Rattle.lc_core.specs.Numbers.{Numbers}
-use Rattle.lc_core.specs.Slots.{segment_to}
+use Rattle.lc_settled.specs.Numbers.{Numbers}
+use Rattle.lc_desk.specs.Slots.{segment_to}
 use Rattle.lc_core.specs.World.{FitsWorld}
-use Rattle.lc_core.specs.declared.node_state.NodeState.{NodeState}
+use Rattle.lc_events.specs.declared.node_state.NodeState.{NodeState}
 use Rattle.lc_core.specs.declared.world_phase.WorldPhase.{WorldPhase}
 use Rattle.lc_core.specs.declared.world_phase.WorldPhase.TheVariants.{Up}
-use Rattle.lc_core.specs.declared.segment_copy.SegmentCopy.{SegmentCopy}
+use Rattle.lc_desk.specs.declared.segment_copy.SegmentCopy.{SegmentCopy}
 use Rattle.lc_core.specs.declared.world.World.{World}
-
--- the open transaction that has locked the segment for writing
-abbrev pub open_writer : ℕ → State → Option Transaction
-open_writer segment s = find (λ t. locks t segment) s.running
-
--- the content of the history, with the writes of this transaction on top
-abbrev pub content_with : Setting → State → Option Transaction → Content
-content_with m s None = value m.start s.earlier s.history
-content_with m s (Some t) = seen m.start s t
+use Rattle.lc_events.specs.Showing.{content_with, open_writer}
+use Rattle.lc_desk.specs.Showing.{page_of}
 
 -- where the token is, the segment with the writes of the transaction that is open on it; elsewhere as the node has applied it
 abbrev pub image_of : Setting → State → Numbers → ℕ → ℕ → List ℕ
 image_of m s x node segment =
     if is_at node (s.place segment) then segment_of segment (content_with m s (open_writer segment s))
     else segment_to m s x.disks segment (x.applied node segment)
-
--- 256 bytes
-abbrev pub page_of : List ℕ → ℕ → List ℕ
-page_of bytes page = take 256 (drop (page * 256) bytes)
 
 module _ {D : Type 0} (a : Ghosts D) where
   -- these are the bytes, whatever it fits

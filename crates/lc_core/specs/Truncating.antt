@@ -1,11 +1,7 @@
 -- What a truncation of a node's log is: its flush, the writes of the pages that are due, none of which begins where one is blocked,
 -- and its reset, up to the first refusal.
-use Rattle.std.specs.Prelude.{◌≡◌, ℕ, ◌+◌, ◌-◌, ◌<◌, ◌||◌, ◌⊎◌, Bool, true, false, nat_lt, Option, Some, None, MatchOption, slice_get, suc, zero}
-use Rattle.std.specs.Option.{unwrap_or}
+use Rattle.std.specs.Prelude.{◌≡◌, ℕ, ◌+◌, ◌-◌, ◌<◌, ◌⊎◌, Bool, true, false, Option, Some, None, MatchOption, slice_get, suc, zero}
 use Rattle.lc_disk.specs.declared.area.Area.{Ghosts}
-use Rattle.lc_page.specs.PageVector.{entry_at, is_dirty}
-use Rattle.lc_page.specs.Writing.{draft_of}
-use Rattle.lc_token.specs.declared.token.Token.{Token}
 use Rattle.lc_model.specs.declared.event.Event.{Event}
 use Rattle.lc_model.specs.declared.event.Event.TheVariants.{FlushStep, PageStep, ResetStep}
 use Rattle.lc_model.specs.declared.refusal.Refusal.{Refusal}
@@ -15,20 +11,18 @@ use Rattle.lc_model.specs.declared.reply.Reply.TheVariants.{Acked, Nothing, Refu
 use Rattle.lc_core.specs.Calls.{CallsArea}
 use Rattle.lc_core.specs.Faults.{CountsPhase}
 use Rattle.lc_core.specs.Geometries.{RefusesOutside, phase_geometry}
-use Rattle.lc_core.specs.MayReply.{may_reply}
-use Rattle.lc_core.specs.PageState.{is_begun}
+use Rattle.lc_events.specs.MayReply.{may_reply}
 use Rattle.lc_core.specs.Recovers.{RefusesAtOnce}
-use Rattle.lc_core.specs.Uncommitted.{HasSeatOn}
+use Rattle.lc_desk.specs.Uncommitted.{HasSeatOn}
 use Rattle.lc_core.specs.Lives.{Anyhow}
 use Rattle.lc_core.specs.World.{FollowsWorld}
-use Rattle.lc_core.specs.declared.node_state.NodeState.{NodeState}
-use Rattle.lc_core.specs.declared.page_state.PageState.{PageState}
-use Rattle.lc_core.specs.declared.page_state.PageState.TheVariants.{AtRest, UnderWay, Failed}
-use Rattle.lc_core.specs.declared.pages.Pages.{Pages}
+use Rattle.lc_events.specs.declared.node_state.NodeState.{NodeState}
+use Rattle.lc_desk.specs.declared.pages.Pages.{Pages}
 use Rattle.lc_core.specs.declared.world_phase.WorldPhase.{WorldPhase}
 use Rattle.lc_core.specs.declared.world_phase.WorldPhase.TheVariants.{Down, Up, Taken}
-use Rattle.lc_core.specs.declared.segment_copy.SegmentCopy.{SegmentCopy}
 use Rattle.lc_core.specs.declared.world.World.{World}
+use Rattle.lc_desk.specs.Truncating.{begun_at, under_way_at}
+use Rattle.lc_events.specs.Truncating.{due_in, newer_in, refusal_in}
 
 -- the events that a truncation is made of
 abbrev pub empties : Event → Bool
@@ -48,55 +42,17 @@ stopping (Acked count) = None
 stopping Nothing = None
 stopping reply = Some reply
 
-abbrev pub refusal_in : Reply → Option Refusal
-refusal_in (Refused refusal) = Some refusal
-refusal_in reply = None
-
--- a write of the page has begun, and is not over
-abbrev pub begun_at : Option PageState → Bool
-begun_at None = false
-begun_at (Some state) = is_begun state
-
 abbrev pub begun_in : ℕ → {D : Type 0} {a : Ghosts D} → Option (Pages D a) → Bool
 begun_in page None = false
 begun_in page (Some pages) = begun_at (slice_get pages.writes.items page)
-
--- the token stands here, and the page is dirty, or its write has begun
-abbrev pub due_of : ℕ → Bool → Option Token → Bool
-due_of page begun None = false
-due_of page begun (Some token) = is_dirty (entry_at token.pages page) || begun
-
-abbrev pub due_in : ℕ → Bool → Option SegmentCopy → Bool
-due_in page begun None = false
-due_in page begun (Some slot) = due_of page begun slot.token.token
 
 abbrev pub due_at : ℕ → ℕ → Bool → {D : Type 0} {a : Ghosts D} → Option (NodeState D a) → Bool
 due_at segment page begun None = false
 due_at segment page begun (Some node) = due_in page begun (slice_get node.desk.here.slots.items (segment - 1))
 
--- the number that the write of a page which is under way puts in place
-abbrev pub under_way_of : PageState → Option ℕ
-under_way_of AtRest = None
-under_way_of (UnderWay write) = Some (draft_of write).seq
-under_way_of Failed = None
-
-abbrev pub under_way_at : Option PageState → Option ℕ
-under_way_at None = None
-under_way_at (Some state) = under_way_of state
-
 abbrev pub under_way_in : ℕ → {D : Type 0} {a : Ghosts D} → Option (Pages D a) → Option ℕ
 under_way_in page None = None
 under_way_in page (Some pages) = under_way_at (slice_get pages.writes.items page)
-
--- the token stands here, and the page was changed under a greater number than the disk has, or will have after the
--- write that is under way
-abbrev pub newer_of : ℕ → Option ℕ → Option Token → Bool
-newer_of page under_way None = false
-newer_of page under_way (Some token) = nat_lt (unwrap_or under_way (entry_at token.pages page).stable) (entry_at token.pages page).touched
-
-abbrev pub newer_in : ℕ → Option ℕ → Option SegmentCopy → Bool
-newer_in page under_way None = false
-newer_in page under_way (Some slot) = newer_of page under_way slot.token.token
 
 abbrev pub newer_at : ℕ → ℕ → Option ℕ → {D : Type 0} {a : Ghosts D} → Option (NodeState D a) → Bool
 newer_at segment page under_way None = false

@@ -9,7 +9,6 @@ use Rattle.lc_model.specs.declared.reply.Reply.{Reply}
 use Rattle.lc_model.specs.declared.reply.Reply.TheVariants.{Refused}
 use Rattle.lc_core.specs.Truncating.{AsksFirst, CallsDue, EachFrom, HasBlocked, Repeats, Round, StepsTo, WritesSegment, empties, is_due, sizes_of, stopping}
 use Rattle.lc_core.specs.declared.page_cursor.PageCursor.{PageCursor}
-use Rattle.lc_core.specs.declared.world_phase.WorldPhase.{WorldPhase}
 use Rattle.lc_core.specs.declared.truncation.Truncation.{Truncation}
 use Rattle.lc_core.specs.declared.truncation_stage.TruncationStage.{TruncationStage}
 use Rattle.lc_core.specs.declared.truncation_stage.TruncationStage.TheVariants.{Flushes, Asks, Writes, Resets}

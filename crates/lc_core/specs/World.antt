@@ -18,13 +18,13 @@ use Rattle.lc_model.specs.declared.event.Event.TheVariants.{RecoverStep}
 use Rattle.lc_model.specs.declared.reply.Reply.{Reply}
 use Rattle.lc_core.specs.Asks.{EventAsks}
 use Rattle.lc_core.specs.HonestAreas.{HonestUp}
-use Rattle.lc_core.specs.Numbers.{Numbers, recovered_numbers}
-use Rattle.lc_core.specs.Pages.{FitsPages}
+use Rattle.lc_settled.specs.Numbers.{Numbers, recovered_numbers}
+use Rattle.lc_desk.specs.Pages.{FitsPages}
 use Rattle.lc_core.specs.Paging.{HaltAll}
-use Rattle.lc_core.specs.Running.{FitsRunning}
-use Rattle.lc_core.specs.Settled.{Settled}
-use Rattle.lc_core.specs.Stepping.{AsksMemory}
-use Rattle.lc_core.specs.Turns.{Turns, kept_numbers}
+use Rattle.lc_events.specs.Running.{FitsRunning}
+use Rattle.lc_settled.specs.Settled.{Settled}
+use Rattle.lc_events.specs.Stepping.{AsksMemory}
+use Rattle.lc_settled.specs.Turns.{Turns, kept_numbers}
 use Rattle.lc_core.specs.declared.world_phase.WorldPhase.{WorldPhase}
 use Rattle.lc_core.specs.declared.world_phase.WorldPhase.TheVariants.{Down, Up, Taken}
 use Rattle.lc_core.specs.declared.world.World.{World}

@@ -9,10 +9,10 @@ ghost use Rattle.lc_core.specs.Built.{IsBuiltOf};
 ghost use Rattle.lc_core.specs.Made.{AreFound};
 ghost use Rattle.lc_rest.specs.Parts.{AreHonest, AreKept};
 ghost use Rattle.lc_core.specs.Adoption.{IsAdoption};
-ghost use Rattle.lc_core.specs.declared.node_piece.NodePiece.{NodePiece};
+ghost use Rattle.lc_journal.specs.declared.node_piece.NodePiece.{NodePiece};
 ghost use Rattle.lc_rest.specs.declared.parts.Parts.{Parts};
 ghost use Rattle.lc_core.specs.declared.world_phase.WorldPhase.TheVariants.{Up};
-ghost use Rattle.lc_core.specs.declared.segment_pieces.SegmentPieces.{SegmentPieces};
+ghost use Rattle.lc_desk.specs.declared.segment_pieces.SegmentPieces.{SegmentPieces};
 ghost use Rattle.lc_core.specs.declared.up.Up.{Up as UpStore};
 ghost use Rattle.lc_core.specs.declared.world.World.{World as Store};
 

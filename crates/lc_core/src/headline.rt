@@ -12,9 +12,10 @@ ghost use Rattle.lc_core.specs.Lives.{FitsLife, Life, Lives};
 ghost use Rattle.lc_core.specs.Observed.{observed};
 ghost use Rattle.lc_core.specs.Runs.{AreSettled, AsksNext, GrowsNext, OnAreas, Settles};
 
+use crate::run_result::RunResult;
 use crate::world::World;
-use crate::{Event, RunResult};
 use lc_disk::Stoppable;
+use lc_model::Event;
 use lc_record::Geometry;
 use lc_recover::RecoverFault;
 use std::alloc::Global;

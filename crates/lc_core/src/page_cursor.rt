@@ -1,7 +1,7 @@
 //! Where a truncation is among the pages of a node.
 ghost use Rattle.std.specs.Prelude.{◌≤◌, ◌<◌};
 
-use crate::Event;
+use lc_model::Event;
 
 /// Where a truncation is among the pages of a node: how many segments there are, and pages each; the place of the
 /// segment, from 0; its round, from 0; and the page that is looked at next.

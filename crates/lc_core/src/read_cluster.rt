@@ -2,23 +2,19 @@
 ghost use Rattle.std.specs.Prelude.{◌≡◌, ◌+◌, ◌*◌, ◌≤◌, Err, IfOk, List, vec_capacity, vec_len, ℕ};
 ghost use Rattle.lc_core.specs.Made.{AreSegments};
 ghost use Rattle.lc_rest.specs.Parts.{AreKept, FailsOnce};
-ghost use Rattle.lc_core.specs.Pictures.{AreImages};
+ghost use Rattle.lc_reading.specs.Pictures.{AreImages};
 ghost use Rattle.lc_core.specs.Pieces.{AreNodePieces};
-ghost use Rattle.lc_core.specs.ReadAreas.{AreWhole};
-ghost use Rattle.lc_core.specs.Readings.{FailsIn, PassesIn};
+ghost use Rattle.lc_reading.specs.ReadAreas.{AreWhole};
+ghost use Rattle.lc_reading.specs.Readings.{FailsIn, PassesIn};
 ghost use Rattle.lc_rest.specs.declared.adopt_fault.AdoptFault.TheVariants.{DeviceFault as Failed, Mismatch};
 ghost use Rattle.lc_rest.specs.declared.cluster_part.ClusterPart.{ClusterPart as ThePart};
 
-use crate::node_images::NodeImages;
-use crate::node_piece::NodePiece;
-use crate::read_nodes::ReadNodes;
-use crate::read_parts::ReadParts;
-use crate::read_segments::ReadSegments;
-use crate::reading_areas::{read_areas, read_pages};
 use crate::standing::standing;
 use crate::up::Up;
 use crate::world_room::WorldRoom;
 use lc_disk::Area;
+use lc_journal::NodePiece;
+use lc_reading::{NodeImages, ReadNodes, ReadParts, ReadSegments, read_areas, read_pages};
 use lc_rest::{AdoptFault, Parts};
 use std::alloc::Global;
 

@@ -4,7 +4,7 @@ ghost use Rattle.lc_model.specs.declared.reply.Reply.TheVariants.{Refused};
 ghost use Rattle.lc_recover.specs.Fault.{refusal_to};
 ghost use Rattle.lc_core.specs.Recovering.{RepliesTo};
 
-use crate::Reply;
+use lc_model::Reply;
 use lc_recover::{Progress, RecoverFault};
 use std::alloc::AllocError;
 

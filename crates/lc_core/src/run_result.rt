@@ -1,5 +1,5 @@
 //! What a run of several events comes to.
-use crate::Reply;
+use lc_model::Reply;
 
 /// What became of a list of events.
 #[derive(Drop)]

@@ -1,6 +1,6 @@
 //! What a step of a truncation has come to.
-use crate::Reply;
 use crate::truncation::Truncation;
+use lc_model::Reply;
 
 /// What a step of a truncation has come to.
 #[derive(Drop)]

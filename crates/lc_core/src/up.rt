@@ -2,9 +2,9 @@
 ghost use Rattle.std.specs.Prelude.{[], ◌≡◌, ◌+◌, ◌*◌, ◌≤◌, vec_capacity, vec_len};
 ghost use Rattle.lc_core.specs.Devices.{HaveLogs, HavePages, HaveSegments};
 
-use crate::pages::Pages;
-use crate::running::Running;
+use lc_desk::Pages;
 use lc_disk::Area;
+use lc_events::Running;
 
 /// The nodes, each with the area of its log, and the areas of the segments with their page writes, from segment 1 on;
 /// and room for all areas beside each other, for when the store goes down.

@@ -1,35 +1,30 @@
 //! The memory of a store that comes up.
-ghost use Rattle.std.specs.Prelude.{◌≡◌, ◌≢◌, ◌+◌, ◌*◌, ◌%◌, ◌≤◌, ℕ, true, false, [], None, Some, length, drop, map};
-ghost use Rattle.std.specs.Prelude.{replicate, vec_capacity, vec_len, slice_get, slice_index, IfOk};
+ghost use Rattle.std.specs.Prelude.{◌≡◌, ◌+◌, ◌*◌, ◌≤◌, ℕ, true, [], None, Some, length, drop, map};
+ghost use Rattle.std.specs.Prelude.{replicate, vec_capacity, vec_len, slice_get, IfOk};
 ghost use Rattle.std.specs.Global.{Vec as TheVec};
-ghost use Rattle.lc_record.specs.declared.geometry.Geometry.{Geometry};
 ghost use Rattle.lc_recover.specs.Reads.{AreOfBytes, HaveLengths};
 ghost use Rattle.lc_recover.specs.Recovered.{AreFinished};
 ghost use Rattle.lc_rest.specs.Found.{Found};
 ghost use Rattle.lc_core.specs.Adopting.{IsAdoptedUp};
-ghost use Rattle.lc_core.specs.Blank.{AreBlankNodes, AreFilledNodes, IsBlankJournal};
+ghost use Rattle.lc_core.specs.Blank.{AreBlankNodes, AreFilledNodes};
 ghost use Rattle.lc_core.specs.Fresh.{IsFresh};
-ghost use Rattle.lc_core.specs.Log.{Stands, area_of, is_idle};
-ghost use Rattle.lc_core.specs.PageState.{AreAtRest, AreNamed};
+ghost use Rattle.lc_journal.specs.Log.{Stands, area_of, is_idle};
+ghost use Rattle.lc_core.specs.PageState.{AreAtRest};
+ghost use Rattle.lc_desk.specs.PageState.{AreNamed};
 ghost use Rattle.lc_core.specs.Pages.{RestsAll, areas_of};
 ghost use Rattle.lc_core.specs.Made.{AreFound, AreSegments, IsMadeUp};
-ghost use Rattle.lc_core.specs.Pieces.{AreNodePieces, AreTokens};
-ghost use Rattle.lc_core.specs.declared.node_state.NodeState.{NodeState};
-ghost use Rattle.lc_core.specs.declared.page_state.PageState.{PageState as TheState};
-ghost use Rattle.lc_core.specs.declared.pages.Pages.{Pages as ThePages};
+ghost use Rattle.lc_core.specs.Pieces.{AreNodePieces};
+ghost use Rattle.lc_desk.specs.Pieces.{AreTokens};
+ghost use Rattle.lc_events.specs.declared.node_state.NodeState.{NodeState};
+ghost use Rattle.lc_desk.specs.declared.page_state.PageState.{PageState as TheState};
+ghost use Rattle.lc_desk.specs.declared.pages.Pages.{Pages as ThePages};
 
 use crate::adopting::adopt_nodes;
-use crate::journal::Journal;
-use crate::log::Log;
-use crate::node_piece::NodePiece;
-use crate::node_state::NodeState;
-use crate::page_state::PageState;
-use crate::pages::Pages;
-use crate::running::Running;
-use crate::segment_pieces::SegmentPieces;
 use crate::up::Up;
+use lc_desk::{PageState, Pages, SegmentPieces};
 use lc_disk::Area;
-use lc_log::Idle;
+use lc_events::{NodeState, Running};
+use lc_journal::NodePiece;
 use lc_record::Geometry;
 use lc_recover::Recovered;
 use lc_token::Token;
@@ -252,21 +247,4 @@ fn with_areas<D: Area + Drop>(
         segments.push_reserved(Pages::new(area, writes));
     }
     (segments, areas)
-}
-
-impl<D: Area + Drop> Journal<D> {
-    // The log is that of this area, which begins with no open gate, and has no record. It takes no memory.
-    fn open(&mut self, area: D)
-        requires len { length (D.now area) ≡ 8 * (self.old.group.room + 1) }
-        requires dropped { self.old.dropped ≡ 0 }
-        requires acked { self.old.acked ≡ 0 }
-        ensures area { area_of D.Area self.new.log ≡ Some area }
-        ensures log { (D.honest area ≡ true → slice_index (D.now area) 0 % 256 ≢ 165)
-            → (D.honest area ≡ true → D.dirty area 0 ≡ false)
-            → Stands D.Area self.new.log 0 [] [] }
-        ensures works { is_idle D.Area self.new.log ≡ true }
-        ensures blank { (g : Geometry) → IsBlankJournal D.Area g self.old → IsBlankJournal D.Area g self.new }
-    {
-        self.log = Log::Idle(Idle { area, end: 0 });
-    }
 }

@@ -1,9 +1,2 @@
-pub use Rattle.lc_recover.specs.Reads
-pub mod Files
 pub mod Folders
-pub mod SizeText
-pub mod Making
-pub mod Renewing
-pub mod Found
-pub mod Sizes
-pub mod Growth
+pub use Rattle.lc_recover.specs.Reads

@@ -1,17 +1,14 @@
 //! The folder of a copy of a store.
 use crate::directory::Directory;
-use crate::file_name::FileName;
-use crate::folder::{Folder, FolderFault, MakeFault};
-use crate::new_file::NewFile;
 use crate::owned_file::OwnedFile;
-use crate::store_file::StoreFile;
 use crate::store_folder::StoreFolder;
-use crate::store_name::StoreName;
 use crate::watch::StoreArea;
 use lc_disk::Area;
+use lc_folder::{FileName, Folder, FolderFault, MakeFault, NewFile, StoreFile, StoreName};
 use lc_record::Geometry;
 use std::fs::OpenFile;
-use std::io::{self, Error, ErrorKind};
+use std::io;
+use std::io::{Error, ErrorKind};
 use std::os::unix::fs::FileExt;
 use std::path::AsPath;
 use std::rt::Files;

@@ -1,21 +1,15 @@
 //! A folder of the system.
-ghost use Rattle.std.specs.Prelude.{◌≡◌};
-ghost use Rattle.lc_files.specs.declared.folder.FolderFault.TheVariants.{NoMemory};
-
 use crate::copying::{CopyFault, copy_file};
-use crate::file_fault::FaultPlace;
-use crate::file_name::FileName;
-use crate::folder::{Folder, FolderFault, MakeFault};
-use crate::new_file::NewFile;
 use crate::owned_file::OwnedFile;
-use crate::size_text::SizeText;
 use crate::store_folder::{StoreFolder, exclusive};
-use crate::store_name::StoreName;
 use lc_disk::{FileArea, HeldFile};
+use lc_folder::{
+    FaultPlace, FileName, Folder, FolderFault, MakeFault, NewFile, SizeText, StoreName,
+};
 use lc_record::Geometry;
-use std::alloc::AllocError;
 use std::fs::OpenFile;
-use std::io::{self, ErrorKind};
+use std::io;
+use std::io::ErrorKind;
 use std::os::unix::fs::FileExt;
 use std::path::AsPath;
 use std::rt::Files;
@@ -173,13 +167,5 @@ where
 
     fn sync(&mut self) -> Result<(), FolderFault> {
         self.folder.noted(FaultPlace::Folder, self.folder.sync())
-    }
-}
-
-impl From<AllocError> for FolderFault {
-    ghost from_gives = { λ _ fault. fault ≡ NoMemory };
-
-    fn from(_error: AllocError) -> FolderFault {
-        FolderFault::NoMemory
     }
 }

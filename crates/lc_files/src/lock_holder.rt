@@ -1,9 +1,9 @@
 //! Which process has the lock of a file.
 use std::alloc::Global;
-use std::fs::{self, File, Metadata};
+use std::fs::{File, Metadata};
 use std::os::unix::fs::MetadataExt;
 use std::rt::Files;
-use std::{fmt, io};
+use std::{fmt, fs, io};
 
 // Where the system lists its locks, a line each, as `1: FLOCK  ADVISORY  WRITE 1234 fe:01:655362 0 EOF`.
 const LOCKS: &str = "/proc/locks";

@@ -1,24 +1,19 @@
 //! The opening of a store in a folder.
 use crate::directory::Directory;
-use crate::file_fault::FaultPlace;
-use crate::file_lens::{FileLens, LOGS, SEGMENTS};
-use crate::file_name::FileName;
-use crate::folder::FolderFault;
 use crate::folder_ref::FolderRef;
-use crate::misfit::Misfit;
-use crate::renewing::renew_store;
 use crate::shared_file::SharedFile;
-use crate::size_source::SizeSource;
-use crate::sizing::{SizeFault, Unopened, agrees, size_found};
-use crate::store_file::StoreFile;
 use crate::store_folder::{SharedFolder, StoreFolder, no_size};
-use crate::store_name::StoreName;
 use crate::watch::{FileWatch, StoreArea};
 use lc_disk::{Area, FileArea, HeldFile};
+use lc_folder::{
+    FaultPlace, FileLens, FileName, FolderFault, LOGS, Misfit, SEGMENTS, SizeFault, SizeSource,
+    StoreFile, StoreName, Unopened, agrees, renew_store, size_found,
+};
 use lc_record::{Geometry, MAX_NODE, MAX_SEGMENT};
 use std::alloc::AllocError;
 use std::fs::{OpenFile, OpenOptions};
-use std::io::{self, Error, ErrorKind};
+use std::io;
+use std::io::{Error, ErrorKind};
 use std::path::AsPath;
 use std::rt::Files;
 

@@ -4,23 +4,20 @@ ghost use Rattle.std.specs.Prelude.{◌≡◌, true, IfOk, string_bytes};
 ghost use Rattle.std.specs.Fs.{asks_create_new, asks_write};
 ghost use Rattle.lc_files.specs.Folders.{folder_path, folder_runtime};
 
-use crate::file_fault::{FaultPlace, FileFault};
-use crate::file_name::FileName;
-use crate::folder::FolderFault;
 use crate::lock_holder::{LockHolder, lock_holder};
 use crate::shared_file::SharedFile;
-use crate::store_file::StoreFile;
-use crate::store_name::StoreName;
 use lc_disk::{HeldFile, open_regular};
+use lc_folder::{FaultPlace, FileFault, FileName, FolderFault, StoreFile, StoreName};
 use lc_record::Geometry;
 use std::alloc::{AllocError, Global};
-use std::fs::{self, File, Metadata, OpenFile, OpenOptions, TryLockError};
-use std::io::{self, Error, ErrorKind};
+use std::fs::{File, Metadata, OpenFile, OpenOptions, TryLockError};
+use std::io::{Error, ErrorKind};
 use std::os::unix::fs::{FileExt, FileTypeExt};
 use std::path::{AsPath, Path};
 use std::rt::Files;
 use std::sync::atomic::{AtomicBool, Ordering};
 use std::sync::{Arc, OnceLock};
+use std::{fs, io};
 
 // More bytes than any size takes.
 const LONGEST_SIZE_FILE: u64 = 128;

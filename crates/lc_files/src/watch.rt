@@ -1,9 +1,7 @@
 //! Who is told of the faults of a store's files.
-use crate::file_fault::FaultPlace;
-use crate::file_name::FileName;
 use crate::folder_ref::FolderRef;
-use crate::store_name::StoreName;
 use lc_disk::{FaultWitness, FileArea, FileCall, HeldFile};
+use lc_folder::{FaultPlace, FileName, StoreName};
 use std::io;
 use std::rt::Files;
 

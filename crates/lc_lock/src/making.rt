@@ -26,7 +26,8 @@ impl<T: Keyed<K>, K> TicketLock<T, K> {
         Ok((TicketLock { table }, Loan { seat, ticket: 0 }))
     }
 
-    /// A lock with its value. Where there is no memory, which alone it may lack, the value comes back.
+    /// A lock with its value, at which nobody can wait yet, so nobody is woken. Where there is no memory, which alone it
+    /// may lack, the value comes back.
     pub fn new(alloc: Global, value: T, key: &K) -> Result<TicketLock<T, K>, T>
         requires fits { T.fits key.now value }
         ensures key { IfOk result (λ lock. key_of lock ≡ key.now) }
@@ -35,7 +36,7 @@ impl<T: Keyed<K>, K> TicketLock<T, K> {
         let Ok((lock, loan)) = TicketLock::vacant(alloc, key) else {
             return Err(value);
         };
-        lock.unlock(value, loan);
+        lock.unlock_silently(value, loan);
         Ok(lock)
     }
 }

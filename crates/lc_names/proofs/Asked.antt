@@ -13,9 +13,9 @@ use Rattle.lc_tx.specs.declared.images.Images.{Ghosts}
 use Rattle.lc_tx.specs.declared.tx.Tx.{Tx}
 use Rattle.lc_tx.specs.Images.{bytes_of}
 use Rattle.lc_tx.specs.Tx.{Holds, RunsOn}
-use Rattle.lc_node.specs.Put.{IsUnput}
-use Rattle.lc_node.specs.Ran.{AgreeOn, Bytes}
-use Rattle.lc_node.specs.declared.put.Put.{Put}
+use Rattle.lc_segments.specs.Put.{IsUnput}
+use Rattle.lc_segments.specs.Ran.{AgreeOn, Bytes}
+use Rattle.lc_segments.specs.declared.put.Put.{Put}
 use Rattle.lc_names.specs.Answers.{Alters, Answers, EntryChange, IsOfEntry, WantsMemory, left_by}
 use Rattle.lc_names.specs.Table.{attributes_in, entries_in}
 use Rattle.lc_names.specs.Ask.{IsAsked, IsUnasked}

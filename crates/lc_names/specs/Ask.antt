@@ -4,7 +4,7 @@ use Rattle.lc_record.specs.Transaction.{is_member}
 use Rattle.lc_range.specs.RangeSet.{AddsPositions}
 use Rattle.lc_tx.specs.declared.tx_fault.TxFault.{TxFault}
 use Rattle.lc_tx.specs.declared.tx_fault.TxFault.TheVariants.{NoMemory, NotLocked, OutOfSegment, ReadOnly, TooManyRanges}
-use Rattle.lc_node.specs.Ran.{AgreeOn, Bytes, Runs}
+use Rattle.lc_segments.specs.Ran.{AgreeOn, Bytes, Runs}
 use Rattle.lc_names.specs.Answers.{Alters, Answers}
 use Rattle.lc_names.specs.declared.name_answer.NameAnswer.{NameAnswer}
 use Rattle.lc_names.specs.declared.ask.Ask.{Ask}

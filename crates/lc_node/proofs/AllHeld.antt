@@ -1,5 +1,5 @@
 -- All segments of a node are held, those that are asked for in front.
-use Rattle.std.proofs.Common.{◌≡◌, ℕ, ◌+◌, ◌<◌, ◌≤◌, ◌||◌, eqb, Bool, true, false, List, [], ◌∷◌, ◌++◌, All, length, map, take, drop, refl, sym, ap, subst, ◌∙◌, inl, inr, arith, length-append, eq-eqb}
+use Rattle.std.proofs.Common.{◌≡◌, ℕ, ◌+◌, ◌≤◌, ◌||◌, eqb, true, false, List, [], ◌∷◌, ◌++◌, All, length, refl, sym, ap, subst, ◌∙◌, inl, inr, arith, length-append, eq-eqb}
 use Rattle.std.proofs.lemmas.List.{map-append}
 use Rattle.std.proofs.lemmas.List.Elements.{All-append}
 use Rattle.std.proofs.lemmas.Bool.{cases_lt, or_cases, or_left, or_right}
@@ -10,10 +10,10 @@ use Rattle.lc_tx.specs.Tx.{IsSetOf}
 use Rattle.lc_node.specs.Commits.{segments_in}
 use Rattle.lc_node.specs.Held.{HasSegment, IsHeldOf}
 use Rattle.lc_node.specs.MakingRoom.{AllHeld}
-use Rattle.lc_node.specs.declared.held.HeldSide.{HeldSide}
+use Rattle.lc_segments.specs.declared.held.HeldSide.{HeldSide}
 use Rattle.lc_node.specs.declared.node.Node.{Node}
 use Rattle.lc_node.proofs.Asking.{asked_all, asked_more, asked_same, asked_to}
-use Rattle.lc_node.proofs.Knowing.{all_alone}
+use Rattle.lc_log_side.proofs.Knowing.{all_alone}
 
 -- each of the first numbers, from 1, is in one of the lists
 abbrev pub Covers : ℕ → List ℕ → List ℕ → Type 0
@@ -52,9 +52,6 @@ module _ {D : Type 0} (node : Node D) (segments : List ℕ) where
     pub are_asked : segments_in asked ≡ asked_to segments n
     pub covers : Covers n (segments_in asked) (segments_in others)
     pub long : length asked + length others ≤ n
-
-  pub holds_none : HoldsTo 0 [] []
-  holds_none = record { asked_held = λ k d within. absurd (omega arith); others_held = λ k d within. absurd (omega arith); are_asked = refl; covers = λ s low high. absurd (omega arith); long = omega arith }
 
   pub holds_asked : (n : ℕ) (asked others : List (HeldSide D)) (h : HeldSide D) → HoldsTo n asked others → IsHeldOf node h → h.side.segment ≡ n + 1 → is_member (n + 1) segments ≡ true → HoldsTo (n + 1) (asked ++ h ∷ []) others
   holds_asked n asked others h holds held at is =

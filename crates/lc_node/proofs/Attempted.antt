@@ -12,8 +12,9 @@ use Rattle.lc_tx.specs.declared.images.Images.{Ghosts}
 use Rattle.lc_tx.specs.declared.tx.Tx.{Tx}
 use Rattle.lc_tx.specs.Images.{IsLockable, IsSameBut, IsSame, AreRestored, AreReleased, bytes_of, holders_of}
 use Rattle.lc_tx.specs.Tx.{Begins}
-use Rattle.lc_node.specs.Works.{Works}
-use Rattle.lc_node.specs.Attempts.{Leaves, IsUndone}
+use Rattle.lc_segments.specs.Works.{Works}
+use Rattle.lc_segments.specs.Attempts.{Leaves}
+use Rattle.lc_node.specs.Attempts.{IsUndone}
 
 module _ {I : Type 0} (m : Ghosts I) (chained : (s t u : I) → m.IsSameBeside s t → m.IsSameBeside t u → m.IsSameBeside s u) where
   -- two changes within the same segments

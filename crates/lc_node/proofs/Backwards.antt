@@ -1,16 +1,14 @@
 -- A list is changed element by element, from the back, beside another that is taken apart.
-use Rattle.std.proofs.Common.{◌≡◌, ℕ, ◌+◌, ◌<◌, ◌≤◌, List, [], ◌∷◌, ◌++◌, Some, length, get_or, set, refl, sym, ap, subst, ◌∙◌, arith, length-append}
+use Rattle.std.proofs.Common.{◌≡◌, ℕ, ◌+◌, ◌<◌, ◌≤◌, List, [], ◌∷◌, ◌++◌, Some, length, get_or, set, sym, ap, subst, ◌∙◌, arith, length-append}
 use mathlib.Core.Logic.{dite}
 use native.Mathlib.Decide.{dec_le}
 use Rattle.std.specs.Prelude.{slice_get}
-use Rattle.std.proofs.lemmas.Option.{slice_get_within, slice_get_read, same_Some as some_same}
+use Rattle.std.proofs.lemmas.Option.{slice_get_within, same_Some as some_same}
 use Rattle.std.proofs.lemmas.List.{length-set as length_set}
 use Rattle.lc_record.proofs.ListLemmas.{slice_get-append_left as get_front, slice_get_push as get_last, slice_get-set_same as get_same, slice_get-set_other as get_other}
-use Rattle.lc_node.specs.Each.{Each, EachThree}
-
-module _ {A : Type 0} where
-  pub got_at : (xs : List A) (k : ℕ) (x : A) → x ≡ get_or xs k x → k < length xs → slice_get xs k ≡ Some x
-  got_at xs k x is within = slice_get_read xs (length xs) k x refl within is
+use Rattle.lc_segments.specs.Each.{Each}
+use Rattle.lc_node.specs.Each.{EachThree}
+use Rattle.lc_log_side.proofs.Backwards.{got_at}
 
 module _ {A B : Type 0} (R : A → B → A → Type 0) where
   pub record Backwards (xs now : List A) (ys left : List B) : Type 0 where

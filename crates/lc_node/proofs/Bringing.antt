@@ -17,9 +17,10 @@ use Rattle.lc_tx.specs.Images.{IsSame, AreReleased, bytes_of}
 use Rattle.lc_tx.specs.Prepared.{final_record}
 use Rattle.lc_tx.specs.Tx.{Begins, RunsOn}
 use Rattle.lc_tx.proofs.RecordLemmas.{inside_from}
-use Rattle.lc_node.specs.Attempts.{Leaves}
-use Rattle.lc_node.specs.Ran.{AgreeOn, Brings, Ran, Runs, Tells, ranges_in}
-use Rattle.lc_node.proofs.Applied.{laid_is_left}
+use Rattle.lc_segments.specs.Attempts.{Leaves}
+use Rattle.lc_segments.specs.Ran.{AgreeOn, Ran, Runs, Tells}
+use Rattle.lc_node.specs.Ran.{Brings, ranges_in}
+use Rattle.lc_segments.proofs.Applied.{laid_is_left}
 use Rattle.lc_node.proofs.PartsOf.{lie_inside, none_set, part_is}
 
 module _ {I : Type 0} (m : Ghosts I) where

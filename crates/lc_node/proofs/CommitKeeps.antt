@@ -18,20 +18,25 @@ use Rattle.lc_tx.specs.Images.{IsHere, bytes_of}
 use Rattle.lc_tx.specs.Prepared.{AreSmall, next_number, segments_of}
 use Rattle.lc_tx.proofs.RecordLemmas.{inside_from}
 use Rattle.lc_node.specs.Attempts.{IsUndone}
-use Rattle.lc_node.specs.Commits.{StagesWork, IsAsBefore, HasPart, TakesPart, shown}
-use Rattle.lc_node.specs.Each.{Each, EachThree}
+use Rattle.lc_segments.specs.Commits.{StagesWork}
+use Rattle.lc_node.specs.Commits.{IsAsBefore, HasPart, TakesPart, shown}
+use Rattle.lc_segments.specs.Each.{Each}
+use Rattle.lc_node.specs.Each.{EachThree}
 use Rattle.lc_node.specs.Held.{lent_side}
-use Rattle.lc_node.specs.HeldImages.{the_images}
-use Rattle.lc_node.specs.Ran.{Tells}
+use Rattle.lc_segments.specs.HeldImages.{the_images}
+use Rattle.lc_segments.specs.Ran.{Tells}
 use Rattle.lc_applied.specs.AppliedParts.{laid_parts}
-use Rattle.lc_node.specs.Sides.{IsOut, IsReady, IsBack, IsCounted, number_in as number_here}
-use Rattle.lc_node.specs.declared.held.HeldSide.{HeldSide}
-use Rattle.lc_node.specs.declared.lent.LentSlot.{LentSlot}
-use Rattle.lc_node.specs.declared.lent.HeldImages.{HeldImages}
-use Rattle.lc_node.proofs.Applied.{laid_is_left}
-use Rattle.lc_node.proofs.Laying.{laid_more}
+use Rattle.lc_segments.specs.Sides.{IsOut, number_in as number_here}
+use Rattle.lc_node.specs.Sides.{IsReady, IsBack, IsCounted}
+use Rattle.lc_segments.specs.declared.held.HeldSide.{HeldSide}
+use Rattle.lc_segments.specs.declared.lent.LentSlot.{LentSlot}
+use Rattle.lc_segments.specs.declared.lent.HeldImages.{HeldImages}
+use Rattle.lc_segments.proofs.Applied.{laid_is_left}
+use Rattle.lc_segments.proofs.Laying.{laid_more}
 use Rattle.lc_node.proofs.PartsOf.{number_made, part_is, none_set, lie_inside}
-use Rattle.lc_node.proofs.Slots.{AscendFrom, SameBeside, each_map, each_of, each_to, got_map, map_got, member_here, member_place, segments_in, image_is, number_is, same_beside, same_segments, hidden_image}
+use Rattle.lc_segments.proofs.Slots.{AscendFrom, SameBeside, got_map, image_is, same_beside}
+use Rattle.lc_node.proofs.Slots.{each_to, map_got, member_place, hidden_image}
+use Rattle.lc_segments.proofs.CommitKeeps.{Was, segments, slots_up, was}
 
 pub number_some : (token : Option Token) (n : ℕ) → number_here token ≡ Some n → (t : Token) × (token ≡ Some t) × (t.seq ≡ n)
 number_some None n is = absurd cc
@@ -42,15 +47,9 @@ some_number None is = absurd cc
 some_number (Some n) is = (n, refl)
 
 module _ {D : Type 0} where
-  abbrev segments : List (HeldSide D) → List ℕ
-  segments sides = map (λ (h : HeldSide D). h.side.segment) sides
-
   -- The images are out
 
   module _ (sides : List (HeldSide D)) (lent : HeldImages) (out : Each IsOut sides lent.slots.items) (up : AscendFrom 0 (segments sides)) where
-    slots_up : AscendFrom 0 (segments_in lent.slots.items)
-    slots_up = subst (AscendFrom 0) (sym (each_map IsOut (λ (h : HeldSide D). h.side.segment) (λ (s : LentSlot). s.segment) sides lent.slots.items out (λ h s is. is.segment))) up
-
     -- the slot of a member
     slot_at : (s : ℕ) → is_member s (segments sides) ≡ true → (k : ℕ) × (h : HeldSide D) × (slot : LentSlot) × (slice_get lent.slots.items k ≡ Some slot) × IsOut h slot × (slot.segment ≡ s)
     slot_at s is = let at = member_place s (segments sides) is in let side = map_got (λ (h : HeldSide D). h.side.segment) sides at.0 s at.1 in
@@ -62,44 +61,12 @@ module _ {D : Type 0} where
       some = λ s is. let a = slot_at s is in let low = a.4.first in let e = a.5 in omega arith;
       few = λ s is. let a = slot_at s is in let high = a.4.last in let e = a.5 in omega arith;
       short = λ s is. let a = slot_at s is in let short = a.4.short in
-          let image : the_images.image_of lent s ≡ a.2.image = ap (λ (n : ℕ). the_images.image_of lent n) (sym a.5) ∙ image_is lent a.0 a.2 slots_up a.3 in
+          let image : the_images.image_of lent s ≡ a.2.image = ap (λ (n : ℕ). the_images.image_of lent n) (sym a.5) ∙ image_is lent a.0 a.2 (slots_up sides lent out up) a.3 in
           let n : length (bytes_of the_images lent s) ≡ length a.2.image.bytes.items = ap (λ (i : Picture). length i.bytes.items) image in omega arith;
     }
 
-    -- what a slot has after a transaction, beside what it had
-    module _ (new : HeldImages) (same : the_images.IsSameBeside lent new) where
-      pub record Was (h : HeldSide D) (b : LentSlot) : Type 0 where
-        pub a : LentSlot
-        pub is_out : IsOut h a
-        pub beside_it : SameBeside a b
-        pub member : is_member h.side.segment (segments sides) ≡ true
-        pub of_segment : b.segment ≡ h.side.segment
-        pub old_image : the_images.image_of lent h.side.segment ≡ a.image
-        pub new_image : the_images.image_of new h.side.segment ≡ b.image
-        pub number : the_images.number_of lent h.side.segment ≡ a.number
-
-      both : Each SameBeside lent.slots.items new.slots.items
-      both = same_beside lent new same
-
-      new_up : AscendFrom 0 (segments_in new.slots.items)
-      new_up = subst (AscendFrom 0) (sym (same_segments lent.slots.items new.slots.items both)) slots_up
-
-      pub was : (k : ℕ) (h : HeldSide D) (b : LentSlot) → slice_get sides k ≡ Some h → slice_get new.slots.items k ≡ Some b → Was h b
-      was k h b h_at b_at = let slot = each_of SameBeside lent.slots.items new.slots.items k b both b_at in let a : LentSlot = slot.0 in
-          let is : IsOut h a = out.each k h a h_at slot.1 in
-          let of : b.segment ≡ h.side.segment = ap (λ (t : ℕ × Option ℕ × Option Picture). t.0) slot.2 ∙ is.segment in record {
-            a = a;
-            is_out = is;
-            beside_it = slot.2;
-            member = member_here (segments sides) k h.side.segment (got_map (λ (x : HeldSide D). x.side.segment) sides k h h_at);
-            of_segment = of;
-            old_image = ap (λ (n : ℕ). the_images.image_of lent n) (sym is.segment) ∙ image_is lent k a slots_up slot.1;
-            new_image = ap (λ (n : ℕ). the_images.image_of new n) (sym of) ∙ image_is new k b new_up b_at;
-            number = ap (λ (n : ℕ). the_images.number_of lent n) (sym is.segment) ∙ number_is lent k a slots_up slot.1;
-          }
-
     -- a transaction that was undone leaves each slot's bytes and holders
-    pub undone_slot : (new : HeldImages) (undone : IsUndone the_images (segments sides) lent new) (h : HeldSide D) (b : LentSlot) (w : Was new undone.same.beside h b) → (b.image.bytes.items ≡ w.a.image.bytes.items) × (b.image.holders ≡ w.a.image.holders)
+    pub undone_slot : (new : HeldImages) (undone : IsUndone the_images (segments sides) lent new) (h : HeldSide D) (b : LentSlot) (w : (Was sides lent out up) new undone.same.beside h b) → (b.image.bytes.items ≡ w.a.image.bytes.items) × (b.image.holders ≡ w.a.image.holders)
     undone_slot new undone h b w = elim w.a.number as (λ (o : Option ℕ). w.a.number ≡ o → (b.image.bytes.items ≡ w.a.image.bytes.items) × (b.image.holders ≡ w.a.image.holders)) [
       | None ↦ λ none. let same = hidden_image w.a b w.beside_it none in (ap (λ (i : Picture). i.bytes.items) same, ap (λ (i : Picture). i.holders) same)
       | Some n ↦ λ some. let here : IsHere the_images lent h.side.segment = subst (λ (o : Option ℕ). IsSome o) (sym (w.number ∙ some)) refl in (
@@ -112,7 +79,7 @@ module _ {D : Type 0} where
     pub ready_undone : (new : HeldImages) → IsUndone the_images (segments sides) lent new → Each IsReady (map lent_side sides) new.slots.items
     ready_undone new undone = record {
       long = (same_beside lent new undone.same.beside).long ∙ (out.long ∙ sym (length-map sides lent_side));
-      each = λ k g b g_at b_at. let side = map_got lent_side sides k g g_at in let w = was new undone.same.beside k side.0 b side.1 b_at in
+      each = λ k g b g_at b_at. let side = map_got lent_side sides k g g_at in let w = (was sides lent out up) new undone.same.beside k side.0 b side.1 b_at in
           let slot = undone_slot new undone side.0 b w in
           subst (λ (x : HeldSide D). IsReady x b) side.2 (record {
             lent = refl;
@@ -127,7 +94,7 @@ module _ {D : Type 0} where
       long = back.long_too ∙ length-map sides lent_side;
       each = λ k h g h_at g_at.
           let slot = each_to SameBeside lent.slots.items new.slots.items k (each_to IsOut sides lent.slots.items k h out h_at).0 (same_beside lent new undone.same.beside) (each_to IsOut sides lent.slots.items k h out h_at).1 in
-          let b : LentSlot = slot.0 in let w = was new undone.same.beside k h b h_at slot.1 in let same = undone_slot new undone h b w in
+          let b : LentSlot = slot.0 in let w = (was sides lent out up) new undone.same.beside k h b h_at slot.1 in let same = undone_slot new undone h b w in
           let is : g ≡ record h { side = record h.side { image = Some b.image } } = back.each k (lent_side h) b g (got_map lent_side sides k h h_at) slot.1 g_at in
           subst (IsAsBefore h) (sym is) (record {
             same = refl;
@@ -139,10 +106,6 @@ module _ {D : Type 0} where
     -- The record was staged
 
     module _ {tells : Tells} {node : ℕ} (parts : List (Option Part)) (new : HeldImages) (before after : StageView) (w : StagesWork tells node (segments sides) lent parts new before after) where
-      part_at : (k : ℕ) (h : HeldSide D) (p : Option Part) → slice_get sides k ≡ Some h → slice_get parts k ≡ Some p → p ≡ part_of h.side.segment w.whole
-      part_at k h p h_at p_at =
-          some_same p (part_of h.side.segment w.whole) (sym p_at ∙ (ap (λ (l : List (Option Part)). slice_get l k) w.parts_are ∙ got_map (λ (s : ℕ). part_of s w.whole) (segments sides) k h.side.segment (got_map (λ (x : HeldSide D). x.side.segment) sides k h h_at)))
-
       -- what a slot has then
       pub record Now (h : HeldSide D) (b : LentSlot) : Type 0 where
         pub number : ℕ
@@ -156,7 +119,7 @@ module _ {D : Type 0} where
         pub was_image : h.side.image ≡ Some (the_images.image_of lent h.side.segment)
 
       now : (k : ℕ) (h : HeldSide D) (b : LentSlot) → slice_get sides k ≡ Some h → slice_get new.slots.items k ≡ Some b → Now h b
-      now k h b h_at b_at = let x = was new w.same.beside k h b h_at b_at in let s : ℕ = h.side.segment in
+      now k h b h_at b_at = let x = (was sides lent out up) new w.same.beside k h b h_at b_at in let s : ℕ = h.side.segment in
           let some = some_number x.a.number (subst (λ (o : Option ℕ). IsSome o) x.number (w.leaves.here s x.member)) in record {
             number = some.0;
             here = sym x.is_out.number ∙ some.1;

@@ -9,20 +9,24 @@ use Rattle.lc_tx.specs.declared.tx_fault.TxFault.{TxFault}
 use Rattle.lc_tx.specs.Images.{bytes_of}
 use Rattle.lc_tx.specs.Prepared.{AreSmall}
 use Rattle.lc_node.specs.Attempts.{IsUnbegun, IsUndone}
-use Rattle.lc_node.specs.Commits.{CommitsWork, IsAsBefore, IsKept, IsKeptTidy, IsUnbegunOn, IsUncommitted, IsUnstaged, StagesWork, TakesOf, bytes_at}
-use Rattle.lc_node.specs.Each.{Each, EachThree}
+use Rattle.lc_node.specs.Commits.{CommitsWork, IsAsBefore, IsKept, IsKeptTidy, IsUnbegunOn, IsUncommitted, IsUnstaged, TakesOf, bytes_at}
+use Rattle.lc_segments.specs.Commits.{StagesWork}
+use Rattle.lc_segments.specs.Each.{Each}
+use Rattle.lc_node.specs.Each.{EachThree}
 use Rattle.lc_node.specs.Held.{lent_side}
-use Rattle.lc_node.specs.HeldImages.{the_images}
-use Rattle.lc_node.specs.Ran.{AgreeOn, Ran, Runs, Tells}
-use Rattle.lc_node.specs.Sides.{IsOut, IsReady, IsBack, IsCounted, IsRoomier, HasFewParts}
-use Rattle.lc_node.specs.declared.held.HeldSide.{HeldSide}
-use Rattle.lc_node.specs.declared.lent.HeldImages.{HeldImages}
-use Rattle.lc_node.specs.declared.lent.LentSlot.{LentSlot}
-use Rattle.lc_node.specs.declared.node_fault.NodeFault.{NodeFault}
+use Rattle.lc_segments.specs.HeldImages.{the_images}
+use Rattle.lc_segments.specs.Ran.{AgreeOn, Ran, Runs, Tells}
+use Rattle.lc_segments.specs.Sides.{IsOut}
+use Rattle.lc_node.specs.Sides.{IsReady, IsBack, IsCounted, IsRoomier, HasFewParts}
+use Rattle.lc_segments.specs.declared.held.HeldSide.{HeldSide}
+use Rattle.lc_segments.specs.declared.lent.HeldImages.{HeldImages}
+use Rattle.lc_segments.specs.declared.lent.LentSlot.{LentSlot}
+use Rattle.lc_segments.specs.declared.node_fault.NodeFault.{NodeFault}
 use Rattle.lc_node.proofs.CommitKeeps.{are_small, ready_undone, back_undone, ready_counted, takes_parts}
 use Rattle.lc_node.proofs.Runs.{ran_as, unstaged_as}
 use Rattle.lc_node.proofs.SideBytes.{back_bytes, out_bytes, out_unbegun}
-use Rattle.lc_node.proofs.Slots.{AscendFrom, ascend_from, each_map, segments_in}
+use Rattle.lc_segments.proofs.Slots.{AscendFrom, each_map, segments_in}
+use Rattle.lc_node.proofs.Slots.{ascend_from}
 use Rattle.lc_node.proofs.Standing.{kept_of_roomier, tidy_of_roomier, takes_of_roomier, segments_roomier, segments_takes}
 
 module _ {D : Type 0} (xs ys zs : List (HeldSide D)) (lent : HeldImages) (segments : List ℕ)

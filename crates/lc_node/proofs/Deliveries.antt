@@ -10,14 +10,15 @@ use Rattle.lc_record.specs.Part.{part_of}
 use Rattle.lc_record.specs.declared.record.Record.{Record}
 use Rattle.lc_record.proofs.ListLemmas.{slice_get_some as some_at, slice_get-set_same as get_same, slice_get-set_other as get_other}
 use Rattle.lc_token.specs.declared.received.Received.{Received}
-use Rattle.lc_node.specs.Arriving.{MayArrive, with_token}
+use Rattle.lc_segments.specs.Arriving.{MayArrive, with_token}
 use Rattle.lc_node.specs.Delivering.{Admits, Answers, HasArrived, IsDelivered, IsReadiedSide}
-use Rattle.lc_node.specs.Each.{Each, EachThree}
-use Rattle.lc_node.specs.Journey.{Journey}
+use Rattle.lc_segments.specs.Each.{Each}
+use Rattle.lc_node.specs.Each.{EachThree}
+use Rattle.lc_segments.specs.Journey.{Journey}
 use Rattle.lc_node.specs.Receptions.{IsFinished, IsForgone, IsPrepared}
-use Rattle.lc_node.specs.SegView.{SegView}
-use Rattle.lc_node.specs.declared.held.HeldSide.{HeldSide}
-use Rattle.lc_node.specs.declared.reception.Reception.{Reception}
+use Rattle.lc_segments.specs.SegView.{SegView}
+use Rattle.lc_segments.specs.declared.held.HeldSide.{HeldSide}
+use Rattle.lc_segments.specs.declared.reception.Reception.{Reception}
 use Rattle.lc_node.proofs.Backwards.{Backwards, step, finish}
 
 module _ {A B : Type 0} where

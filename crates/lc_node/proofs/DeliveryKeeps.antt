@@ -10,14 +10,17 @@ use Rattle.lc_record.specs.declared.record.Record.{Record}
 use Rattle.lc_record.proofs.ListLemmas.{slice_get_some as some_at, All-slice_get as all_at}
 use Rattle.lc_token.specs.declared.received.Received.{Received}
 use Rattle.lc_token.specs.declared.received.Received.TheVariants.{Applied, HeldBack, Ignored}
-use Rattle.lc_node.specs.Delivering.{Admits, HasArrived, IsDelivered, IsReadiedSide, TakesIn}
-use Rattle.lc_node.specs.Each.{Each, EachThree}
+use Rattle.lc_node.specs.Delivering.{Admits, HasArrived, IsDelivered, IsReadiedSide}
+use Rattle.lc_segments.specs.Delivering.{TakesIn}
+use Rattle.lc_segments.specs.Each.{Each}
+use Rattle.lc_node.specs.Each.{EachThree}
 use Rattle.lc_node.specs.Held.{IsHeldOf}
-use Rattle.lc_node.specs.Receptions.{CanFinish, IsPrepared, IsReceived}
-use Rattle.lc_node.specs.SegView.{SegView}
-use Rattle.lc_node.specs.declared.held.HeldSide.{HeldSide}
+use Rattle.lc_segments.specs.Receptions.{CanFinish, IsReceived}
+use Rattle.lc_node.specs.Receptions.{IsPrepared}
+use Rattle.lc_segments.specs.SegView.{SegView}
+use Rattle.lc_segments.specs.declared.held.HeldSide.{HeldSide}
 use Rattle.lc_node.specs.declared.node.Node.{Node}
-use Rattle.lc_node.specs.declared.reception.Reception.{Reception}
+use Rattle.lc_segments.specs.declared.reception.Reception.{Reception}
 use Rattle.lc_node.proofs.Deliveries.{IsSomewhere}
 use Rattle.lc_node.proofs.Received.{can_finish, of_readied, same_standing}
 

@@ -8,10 +8,11 @@ use Rattle.lc_record.specs.Record.{Chain}
 use Rattle.lc_record.specs.Transaction.{is_member}
 use Rattle.lc_token.specs.declared.token.Token.{Token}
 use Rattle.lc_node.specs.Commits.{AreHere, IsFirstAbsent, IsFirstGone, number_at}
-use Rattle.lc_node.specs.Sides.{number_in}
-use Rattle.lc_node.specs.declared.held.HeldSide.{HeldSide}
-use Rattle.lc_node.proofs.PagesWritten.{got_item}
-use Rattle.lc_node.proofs.Slots.{AscendFrom, ascend_from}
+use Rattle.lc_segments.specs.Sides.{number_in}
+use Rattle.lc_segments.specs.declared.held.HeldSide.{HeldSide}
+use Rattle.lc_log_side.proofs.PagesWritten.{got_item}
+use Rattle.lc_segments.proofs.Slots.{AscendFrom}
+use Rattle.lc_node.proofs.Slots.{ascend_from}
 
 module _ {D : Type 0} (sides : List (HeldSide D)) where
   -- those before are here, and the first of the rest is the first of all

@@ -13,10 +13,10 @@ use Rattle.lc_recover.specs.Recovered.{RecoveredStore, AreFinished, page_of}
 use Rattle.lc_recover.proofs.Images.{count-areas, len-log, len-segment}
 use Rattle.lc_token.specs.declared.token.Token.{Token}
 use Rattle.lc_node.specs.Fresh.{HasWholePages, fresh_token, segment_bytes}
-use Rattle.lc_node.specs.Pages.{FitsPage, FitsToken}
+use Rattle.lc_segments.specs.Pages.{FitsPage, FitsToken}
 use Rattle.lc_node.specs.Rooms.{FitsLog, FitsRoom, IsOfSegment, IsRoomOf}
 use Rattle.lc_applied.specs.AppliedParts.{laid_parts}
-use Rattle.lc_node.specs.SegView.{SegView}
+use Rattle.lc_segments.specs.SegView.{SegView}
 use Rattle.lc_node.specs.declared.seg_room.SegRoom.{SegRoom}
 use Rattle.lc_node.proofs.FreshPages.{bytes_long, entries_count, entry_there, page_there}
 

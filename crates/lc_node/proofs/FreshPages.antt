@@ -9,7 +9,7 @@ use Rattle.lc_record.specs.Marks.{counting}
 use Rattle.lc_record.proofs.ListLemmas.{counting_push_zero as counting_more}
 use Rattle.lc_page.specs.PageVector.{entry_at, new_entry}
 use Rattle.lc_page.specs.declared.page_text.PageText.{PageText}
-use Rattle.lc_node.specs.Pages.{page_bytes}
+use Rattle.lc_segments.specs.Pages.{page_bytes}
 
 -- one more page
 pub bytes_more : (f : ℕ → List ℕ) (page : ℕ) (new old items : List ℕ) → new ≡ old ++ items → old ≡ flat_map f (counting 0 page) → items ≡ f page → new ≡ flat_map f (counting 0 (page + 1))

@@ -9,8 +9,9 @@ use Rattle.lc_lock.specs.Loans.{key_of}
 use Rattle.lc_lock.specs.declared.ticket_lock.TicketLock.{TicketLock}
 use Rattle.lc_tx.specs.declared.image.Image.{Image as Picture}
 use Rattle.lc_rest.specs.declared.segment_part.SegmentPart.{SegmentPart}
-use Rattle.lc_node.specs.LeftBy.{HasFailed, StoodBehind, tokens_at}
-use Rattle.lc_node.specs.SegView.{SegView}
+use Rattle.lc_segments.specs.LeftBy.{HasFailed, tokens_at}
+use Rattle.lc_node.specs.LeftBy.{StoodBehind}
+use Rattle.lc_segments.specs.SegView.{SegView}
 use Rattle.lc_node.proofs.FromFront.{mapped_more}
 
 module _ {D : Type 0} where

@@ -4,14 +4,14 @@ use Rattle.std.specs.Prelude.{◌⊎◌, IfErr, OnOk, Result}
 use Rattle.lc_stage.specs.declared.stage_view.StageView.{StageView}
 use Rattle.lc_tx.specs.Tx.{IsSetOf}
 use Rattle.lc_node.specs.Commits.{AreHere, CommitsAmong, CommitsWork, IsKept, IsKeptTidy, IsUnbegunAmong, IsUnbegunOn, IsUncommitted, bytes_at, segments_in}
-use Rattle.lc_node.specs.Each.{Each}
+use Rattle.lc_segments.specs.Each.{Each}
 use Rattle.lc_node.specs.Halting.{IsHalted}
 use Rattle.lc_node.specs.Held.{IsHeldOf}
-use Rattle.lc_node.specs.Ran.{Ran, Tells}
+use Rattle.lc_segments.specs.Ran.{Ran, Tells}
 use Rattle.lc_node.specs.Stages.{Sees}
-use Rattle.lc_node.specs.declared.held.HeldSide.{HeldSide}
+use Rattle.lc_segments.specs.declared.held.HeldSide.{HeldSide}
 use Rattle.lc_node.specs.declared.node.Node.{Node}
-use Rattle.lc_node.specs.declared.node_fault.NodeFault.{NodeFault}
+use Rattle.lc_segments.specs.declared.node_fault.NodeFault.{NodeFault}
 use Rattle.lc_node.proofs.Roomed.{at_err, each_err}
 use Rattle.lc_node.proofs.Runs.{uncommitted_among}
 use Rattle.lc_node.proofs.SideBytes.{unbegun_among}

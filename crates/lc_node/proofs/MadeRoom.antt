@@ -6,13 +6,13 @@ use Rattle.std.proofs.Math.Seq.{take-append_seam, drop-append_seam}
 use Rattle.lc_record.specs.Record.{Chain}
 use Rattle.lc_stage.specs.declared.stage_view.StageView.{StageView}
 use Rattle.lc_node.specs.Commits.{segments_in}
-use Rattle.lc_node.specs.Each.{Each}
+use Rattle.lc_segments.specs.Each.{Each}
 use Rattle.lc_node.specs.MakingRoom.{CommitsFirst, CommitsOn}
-use Rattle.lc_node.specs.Ran.{Tells}
-use Rattle.lc_node.specs.Truncates.{IsSameHeld}
-use Rattle.lc_node.specs.declared.held.HeldSide.{HeldSide}
+use Rattle.lc_segments.specs.Ran.{Tells}
+use Rattle.lc_log_side.specs.Truncates.{IsSameHeld}
+use Rattle.lc_segments.specs.declared.held.HeldSide.{HeldSide}
 use Rattle.lc_node.specs.declared.node.Node.{Node}
-use Rattle.lc_node.specs.declared.node_fault.NodeFault.{NodeFault}
+use Rattle.lc_segments.specs.declared.node_fault.NodeFault.{NodeFault}
 
 module _ {A : Type 0} where
   written_over : (ys rest : List A) (n : ℕ) → length ys ≡ n → take n (ys ++ rest) ≡ ys

@@ -1,19 +1,16 @@
 -- A message is answered, and is kept where it comes back.
-use Rattle.std.proofs.Common.{◌≡◌, ℕ, List, [], ◌∷◌, ◌++◌, Some, None, true, false, refl, sym, subst, ◌∙◌, inl, inr}
-use Rattle.std.specs.Prelude.{◌↔◌, Bool, Err, IfErr, IsSome, MatchOption, Ok, OnErr, Option, Result}
+use Rattle.std.proofs.Common.{◌≡◌, ℕ, [], Some, None, true, false, refl, subst, inr}
+use Rattle.std.specs.Prelude.{◌↔◌, Bool, Err, IfErr, IsSome, Ok, OnErr, Option, Result}
 use Rattle.std.proofs.lemmas.List.Elements.{All-nil}
 use Rattle.lc_record.specs.declared.record.Record.{Record as Spelled}
-use Rattle.lc_node.specs.Arriving.{MayArrive, with_token}
+use Rattle.lc_segments.specs.Arriving.{MayArrive, with_token}
 use Rattle.lc_node.specs.Held.{IsFirstOutside, IsHeldOf, IsUnheld}
-use Rattle.lc_node.specs.Journey.{Journey}
-use Rattle.lc_node.specs.Reached.{AnswersJourney, AnswersToken, IsNextAt, RefusesRecord, locked_in}
-use Rattle.lc_node.specs.Receiving.{kept_at, taken_at}
-use Rattle.lc_node.specs.SegView.{SegView}
-use Rattle.lc_node.specs.declared.message.Message.{Message}
+use Rattle.lc_segments.specs.Journey.{Journey}
+use Rattle.lc_node.specs.Reached.{AnswersJourney, AnswersToken, RefusesRecord, locked_in}
+use Rattle.lc_segments.specs.SegView.{SegView}
 use Rattle.lc_node.specs.declared.node.Node.{Node}
-use Rattle.lc_node.specs.declared.node_fault.NodeFault.{NodeFault}
-use Rattle.lc_node.specs.declared.node_fault.NodeFault.TheVariants.{NotHere, NoMemory}
-use Rattle.lc_node.specs.declared.peer_inbox.PeerInbox.{PeerInbox}
+use Rattle.lc_segments.specs.declared.node_fault.NodeFault.{NodeFault}
+use Rattle.lc_segments.specs.declared.node_fault.NodeFault.TheVariants.{NotHere, NoMemory}
 use Rattle.lc_node.specs.declared.pumped.Pumped.{Pumped}
 use Rattle.lc_node.specs.declared.pumped.Pumped.TheVariants.{Arrived, Waiting}
 
@@ -51,18 +48,3 @@ module _ {D : Type 0} where
   record_unheld node r (NotHere segment) is first = first segment refl
   record_unheld node r NoMemory is first = no_side node r
   record_unheld node r _ is first = absurd is
-
-module _ {P : Type 0} (old new : List (PeerInbox P)) (peer : ℕ) (result : Option (Message P))
-    (again : IsSome (kept_at old peer) → (result ≡ kept_at old peer) × (taken_at new peer ≡ taken_at old peer))
-    (taken : kept_at old peer ≡ None → MatchOption result (taken_at new peer ≡ taken_at old peer) (λ m. taken_at new peer ≡ taken_at old peer ++ m ∷ [])) where
-  pub next_at : (m : Message P) → result ≡ Some m → IsNextAt old peer m new
-  next_at m is = by_kept (kept_at old peer) refl
-    where
-      by_kept : (kept : Option (Message P)) → kept_at old peer ≡ kept → IsNextAt old peer m new
-      by_kept None none = inr (none, subst (λ r. MatchOption r (taken_at new peer ≡ taken_at old peer) (λ x. taken_at new peer ≡ taken_at old peer ++ x ∷ [])) is (taken none))
-      by_kept (Some k) some = let both = again (subst IsSome (sym some) refl) in inl (sym both.0 ∙ is, both.1)
-
--- the message goes nowhere but to the end
-pub next_still : {P : Type 0} (old mid new : List (PeerInbox P)) (peer : ℕ) (m : Message P) → taken_at new peer ≡ taken_at mid peer → IsNextAt old peer m mid → IsNextAt old peer m new
-next_still old mid new peer m same (inl kept) = inl (kept.0, same ∙ kept.1)
-next_still old mid new peer m same (inr next) = inr (next.0, same ∙ next.1)

@@ -12,7 +12,7 @@ use Rattle.lc_tx.specs.Walk.{AreInside}
 use Rattle.lc_tx.specs.declared.images.Images.{Ghosts}
 use Rattle.lc_tx.specs.declared.tx.Tx.{Tx}
 use Rattle.lc_tx.proofs.RecordLemmas.{inside_from}
-use Rattle.lc_node.specs.Ran.{IsOfRuns, run_of}
+use Rattle.lc_segments.specs.Ran.{IsOfRuns, run_of}
 
 module _ {I : Type 0} (m : Ghosts I) (images : I) where
   runs_are : (runs : List Range) → AreInside m images runs → map run_of (map (run_data m images) runs) ≡ runs

@@ -7,7 +7,7 @@ use Rattle.std.proofs.lemmas.Option.{slice_get_within, same_Some as some_same}
 use Rattle.std.proofs.lemmas.List.{length-set as length_set}
 use Rattle.lc_record.proofs.ListLemmas.{slice_get-set_same as get_same, slice_get-set_other as get_other}
 use Rattle.lc_node.specs.Each.{EachThree}
-use Rattle.lc_node.proofs.Backwards.{got_at}
+use Rattle.lc_log_side.proofs.Backwards.{got_at}
 
 module _ {A B : Type 0} (R : A → B → A → Type 0) where
   pub record Onwards (xs now : List A) (ys : List B) (n : ℕ) : Type 0 where

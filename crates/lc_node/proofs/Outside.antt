@@ -5,10 +5,10 @@ use Rattle.std.proofs.lemmas.List.{drop_more, take_more, take_all}
 use Rattle.std.proofs.lemmas.List.Elements.{All-append}
 use Rattle.lc_record.specs.Marks.{counting}
 use Rattle.lc_node.specs.Held.{HasSegment, IsFirstOutside, IsUnheld}
-use Rattle.lc_node.specs.declared.node_fault.NodeFault.{NodeFault}
-use Rattle.lc_node.specs.declared.node_fault.NodeFault.TheVariants.{Busy, NotHere, NoRange, OutOfSegment, NotLocked, NoMemory, TooLong, SequenceSpent, EmptyRange, TooManyRanges, Full, Sealed, Lost, DeviceFault, Halted, Mismatch, Token, RoundsSpent, Unclean, ChannelFull, ReadOnly}
+use Rattle.lc_segments.specs.declared.node_fault.NodeFault.{NodeFault}
+use Rattle.lc_segments.specs.declared.node_fault.NodeFault.TheVariants.{Busy, NotHere, NoRange, OutOfSegment, NotLocked, NoMemory, TooLong, SequenceSpent, EmptyRange, TooManyRanges, Full, Sealed, Lost, DeviceFault, Halted, Mismatch, Token, RoundsSpent, Unclean, ChannelFull, ReadOnly}
 use Rattle.lc_node.specs.declared.node.Node.{Node}
-use Rattle.lc_node.proofs.Knowing.{all_alone}
+use Rattle.lc_log_side.proofs.Knowing.{all_alone}
 
 module _ {D : Type 0} (node : Node D) (segments : List ℕ) where
   -- those before are here, and the first of the rest is the first of all

@@ -14,7 +14,7 @@ use Rattle.lc_tx.specs.Walk.{AreInside}
 use Rattle.lc_tx.specs.Images.{bytes_of}
 use Rattle.lc_tx.specs.declared.images.Images.{Ghosts}
 use Rattle.lc_tx.specs.Prepared.{run_data}
-use Rattle.lc_node.specs.Laid.{LieInside}
+use Rattle.lc_segments.specs.Laid.{LieInside}
 
 -- Its number
 

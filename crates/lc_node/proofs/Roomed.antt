@@ -3,13 +3,14 @@ use Rattle.std.proofs.Common.{◌≡◌, ℕ, zero, suc, ◌<◌, Bool, true, fa
 use Rattle.std.specs.Prelude.{slice_get, IfErr, IsSome, Result}
 use Rattle.std.proofs.lemmas.Option.{same_Some as some_same}
 use Rattle.lc_node.specs.Commits.{IsKept, IsKeptTidy}
-use Rattle.lc_node.specs.Each.{Each}
+use Rattle.lc_segments.specs.Each.{Each}
 use Rattle.lc_node.specs.Held.{lent_side}
-use Rattle.lc_node.specs.Sides.{HasFewParts, HasMoreRoom, IsOut, IsRoomier}
-use Rattle.lc_node.specs.declared.held.HeldSide.{HeldSide}
-use Rattle.lc_node.specs.declared.lent.LentSlot.{LentSlot}
-use Rattle.lc_node.specs.declared.node_fault.NodeFault.{NodeFault}
-use Rattle.lc_node.proofs.Slots.{each_head, each_tail}
+use Rattle.lc_node.specs.Sides.{HasFewParts, HasMoreRoom, IsRoomier}
+use Rattle.lc_segments.specs.Sides.{IsOut}
+use Rattle.lc_segments.specs.declared.held.HeldSide.{HeldSide}
+use Rattle.lc_segments.specs.declared.lent.LentSlot.{LentSlot}
+use Rattle.lc_segments.specs.declared.node_fault.NodeFault.{NodeFault}
+use Rattle.lc_segments.proofs.Slots.{each_head, each_tail}
 use Rattle.lc_node.proofs.Standing.{roomier_image}
 
 each_cons : {A B : Type 0} (R : A → B → Type 0) (x : A) (xs : List A) (y : B) (ys : List B) → R x y → Each R xs ys → Each R (x ∷ xs) (y ∷ ys)

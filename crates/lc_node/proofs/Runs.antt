@@ -9,8 +9,9 @@ use Rattle.lc_tx.specs.Image.{laid_over}
 use Rattle.lc_tx.specs.Tx.{IsSetOf}
 use Rattle.lc_tx.specs.declared.tx_fault.TxFault.{TxFault}
 use Rattle.lc_node.specs.Commits.{IsUncommitted, IsUnstaged}
-use Rattle.lc_node.specs.Ran.{AgreeOn, Bytes, Brings, IsRefusedFor, Ran, Runs, Tells, ranges_in}
-use Rattle.lc_node.specs.declared.node_fault.NodeFault.{NodeFault}
+use Rattle.lc_segments.specs.Ran.{AgreeOn, Bytes, Ran, Runs, Tells}
+use Rattle.lc_node.specs.Ran.{Brings, IsRefusedFor, ranges_in}
+use Rattle.lc_segments.specs.declared.node_fault.NodeFault.{NodeFault}
 
 -- Over the same bytes
 

@@ -20,17 +20,21 @@ use Rattle.lc_tx.specs.Prepared.{final_record, next_number, segments_of, with_nu
 use Rattle.lc_tx.specs.Tx.{RunsOn}
 use Rattle.lc_tx.specs.Walk.{AreInside}
 use Rattle.lc_tx.proofs.RecordLemmas.{inside_from}
-use Rattle.lc_node.specs.Attempts.{Leaves}
-use Rattle.lc_node.specs.Each.{Each, EachThree}
+use Rattle.lc_segments.specs.Attempts.{Leaves}
+use Rattle.lc_segments.specs.Each.{Each}
+use Rattle.lc_node.specs.Each.{EachThree}
 use Rattle.lc_node.specs.Held.{lent_side}
-use Rattle.lc_node.specs.HeldImages.{the_images}
-use Rattle.lc_node.specs.Sides.{CanCount, CountsRuns, HasMoreRoom, HasRoomForRuns, IsCounted, IsOut, if_any, part_for, number_in as number_here}
-use Rattle.lc_node.specs.declared.held.HeldSide.{HeldSide}
-use Rattle.lc_node.specs.declared.lent.LentSlot.{LentSlot}
-use Rattle.lc_node.specs.declared.lent.HeldImages.{HeldImages}
-use Rattle.lc_node.proofs.CommitKeeps.{number_some, some_number, was}
+use Rattle.lc_segments.specs.HeldImages.{the_images}
+use Rattle.lc_node.specs.Sides.{CanCount, CountsRuns, HasMoreRoom, HasRoomForRuns, IsCounted}
+use Rattle.lc_segments.specs.Sides.{IsOut, if_any, part_for, number_in as number_here}
+use Rattle.lc_segments.specs.declared.held.HeldSide.{HeldSide}
+use Rattle.lc_segments.specs.declared.lent.LentSlot.{LentSlot}
+use Rattle.lc_segments.specs.declared.lent.HeldImages.{HeldImages}
+use Rattle.lc_node.proofs.CommitKeeps.{number_some, some_number}
+use Rattle.lc_segments.proofs.CommitKeeps.{was}
 use Rattle.lc_node.proofs.PartsOf.{number_fits}
-use Rattle.lc_node.proofs.Slots.{AscendFrom, SameBeside, each_of, each_to, got_map, map_got, same_beside}
+use Rattle.lc_segments.proofs.Slots.{AscendFrom, SameBeside, each_of, got_map, same_beside}
+use Rattle.lc_node.proofs.Slots.{each_to, map_got}
 
 -- The number that the locks of some runs have of a segment
 

@@ -7,10 +7,10 @@ use Rattle.std.specs.Prelude.{IsSome}
 use Rattle.std.proofs.lemmas.Option.{slice_get_within, get_or_from_slice_get, slice_get_read}
 use Rattle.lc_lock.specs.declared.ticket_lock.TicketLock.{TicketLock}
 use Rattle.lc_lock.specs.Loans.{key_of, IsLoanOf}
-use Rattle.lc_node.specs.SegView.{SegView}
+use Rattle.lc_segments.specs.SegView.{SegView}
 use Rattle.lc_node.specs.Held.{IsHeldOf}
 use Rattle.lc_node.specs.declared.node.Node.{Node}
-use Rattle.lc_node.specs.declared.held.HeldSide.{HeldSide}
+use Rattle.lc_segments.specs.declared.held.HeldSide.{HeldSide}
 
 module _ {A : Type 0} (P : A → Type 0) where
   pub all_front : (xs ys : List A) → All P (xs ++ ys) → All P xs

@@ -6,10 +6,11 @@ use Rattle.lc_stage.specs.Receipts.{IsReceiptOf}
 use Rattle.lc_stage.specs.Staging.{HasReached, latest, learns_durable, with_receipt}
 use Rattle.lc_stage.specs.declared.receipt.Receipt.{Receipt}
 use Rattle.lc_stage.specs.declared.stage_view.StageView.{StageView}
-use Rattle.lc_node.specs.Receipts.{Learns}
-use Rattle.lc_node.specs.Settling.{FailsIn, Looks, LooksIn, Settles, SettlesIn, published_end}
+use Rattle.lc_log_side.specs.Receipts.{Learns}
+use Rattle.lc_node.specs.Settling.{FailsIn, LooksIn, SettlesIn}
+use Rattle.lc_log_side.specs.Settling.{Looks, Settles, published_end}
 use Rattle.lc_node.specs.declared.node.Node.{Node}
-use Rattle.lc_node.specs.declared.node_fault.NodeFault.{NodeFault}
+use Rattle.lc_segments.specs.declared.node_fault.NodeFault.{NodeFault}
 
 pub looks_of : (x : ℕ) (v w : StageView) (found : Option Receipt) → IfSome found (λ receipt. HasReached x v × IsReceiptOf (latest v.mine) receipt × (w ≡ with_receipt (learns_durable x v)))
     → IfNone found (¬ HasReached x v × (w ≡ learns_durable x v)) → Looks x v found w

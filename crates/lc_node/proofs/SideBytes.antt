@@ -16,14 +16,18 @@ use Rattle.lc_tx.specs.Images.{bytes_of, holders_of}
 use Rattle.lc_tx.specs.Tx.{IsSetOf}
 use Rattle.lc_node.specs.Attempts.{IsUnbegun}
 use Rattle.lc_node.specs.Commits.{IsKeptTidy, IsUnbegunAmong, IsUnbegunOn, TakesOf, TakesPart, bytes_at, number_at, of_side, shown}
-use Rattle.lc_node.specs.Each.{Each, EachThree}
-use Rattle.lc_node.specs.HeldImages.{the_images}
-use Rattle.lc_node.specs.Ran.{AgreeOn, Brings, ranges_in}
-use Rattle.lc_node.specs.Sides.{number_in, IsBack, IsOut, IsRoomier}
-use Rattle.lc_node.specs.declared.held.HeldSide.{HeldSide}
-use Rattle.lc_node.specs.declared.lent.LentSlot.{LentSlot}
-use Rattle.lc_node.specs.declared.lent.HeldImages.{HeldImages}
-use Rattle.lc_node.proofs.Slots.{AscendFrom, each_head, each_map, each_tail, each_to, got_map, image_is, map_got, member_place, number_is, same_beside, same_segments, segments_in}
+use Rattle.lc_segments.specs.Each.{Each}
+use Rattle.lc_node.specs.Each.{EachThree}
+use Rattle.lc_segments.specs.HeldImages.{the_images}
+use Rattle.lc_segments.specs.Ran.{AgreeOn}
+use Rattle.lc_node.specs.Ran.{Brings, ranges_in}
+use Rattle.lc_segments.specs.Sides.{number_in, IsOut}
+use Rattle.lc_node.specs.Sides.{IsBack, IsRoomier}
+use Rattle.lc_segments.specs.declared.held.HeldSide.{HeldSide}
+use Rattle.lc_segments.specs.declared.lent.LentSlot.{LentSlot}
+use Rattle.lc_segments.specs.declared.lent.HeldImages.{HeldImages}
+use Rattle.lc_segments.proofs.Slots.{AscendFrom, each_head, each_map, each_tail, got_map, image_is, number_is, same_beside, same_segments, segments_in}
+use Rattle.lc_node.proofs.Slots.{each_to, map_got, member_place}
 use Rattle.lc_node.proofs.Standing.{roomier_image, roomier_segment, takes_segment}
 
 later : (x s : ℕ) (xs : List ℕ) → (x == s) ≡ false → IsTrue (is_member s (x ∷ xs)) → IsTrue (is_member s xs)

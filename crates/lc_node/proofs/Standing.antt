@@ -9,12 +9,13 @@ use Rattle.lc_record.specs.declared.part.Part.{Part}
 use Rattle.lc_record.specs.declared.record.Record.{Record}
 use Rattle.lc_record.proofs.ListLemmas.{All-slice_get as all_at}
 use Rattle.lc_node.specs.Commits.{IsAsBefore, IsKept, IsKeptTidy, TakesOf, TakesPart}
-use Rattle.lc_node.specs.Each.{Each}
+use Rattle.lc_segments.specs.Each.{Each}
 use Rattle.lc_node.specs.Held.{IsHeldOf}
 use Rattle.lc_node.specs.Sides.{IsRoomier, HasFewParts}
-use Rattle.lc_node.specs.declared.held.HeldSide.{HeldSide}
+use Rattle.lc_segments.specs.declared.held.HeldSide.{HeldSide}
 use Rattle.lc_node.specs.declared.node.Node.{Node}
-use Rattle.lc_node.proofs.Slots.{each_map, each_of, each_to}
+use Rattle.lc_segments.proofs.Slots.{each_map, each_of}
+use Rattle.lc_node.proofs.Slots.{each_to}
 
 module _ {D : Type 0} where
   -- Parts are folded, and there is more room

@@ -1,16 +1,11 @@
 -- How much parts take, and sides whose parts are folded where they take too much.
-use Rattle.std.proofs.Common.{◌≡◌, ℕ, ◌+◌, ◌*◌, ◌≤◌, List, [], ◌∷◌, ◌++◌, length, sym, ap, ◌∙◌, inl, inr, arith}
+use Rattle.std.proofs.Common.{◌≡◌, ℕ, ◌*◌, ◌≤◌, length, sym, ap, ◌∙◌, inl, inr, arith}
 use mathlib.Core.Logic.{dite}
 use native.Mathlib.Decide.{dec_le}
-use Rattle.lc_record.specs.declared.part.Part.{Part}
-use Rattle.lc_node.specs.Growing.{folded, part_size, parts_size, HasGrown}
-use Rattle.lc_node.specs.SegView.{SegView}
+use Rattle.lc_segments.specs.Growing.{folded, parts_size, HasGrown}
+use Rattle.lc_segments.specs.SegView.{SegView}
 use Rattle.lc_node.specs.Sides.{IsRoomier}
-use Rattle.lc_node.specs.declared.held.HeldSide.{HeldSide}
-
-pub parts_size_more : (parts : List Part) (part : Part) → parts_size (parts ++ part ∷ []) ≡ parts_size parts + part_size part
-parts_size_more [] part = omega arith
-parts_size_more (p ∷ parts) part = let e = parts_size_more parts part in omega arith
+use Rattle.lc_segments.specs.declared.held.HeldSide.{HeldSide}
 
 module _ {D : Type 0} (h : HeldSide D) (tidy : SegView D) where
   -- it was folded exactly where it had grown

@@ -4,9 +4,9 @@ use Rattle.std.specs.Prelude.{Ok}
 use Rattle.lc_stage.specs.declared.stage_view.StageView.{StageView}
 use Rattle.lc_tx.specs.Tx.{IsSetOf}
 use Rattle.lc_node.specs.Commits.{ClosesWork, CommitsWork, IsKeptTidy, bytes_at, segments_in}
-use Rattle.lc_node.specs.Each.{Each}
-use Rattle.lc_node.specs.Ran.{Bytes, Ran, Tells}
-use Rattle.lc_node.specs.declared.held.HeldSide.{HeldSide}
+use Rattle.lc_segments.specs.Each.{Each}
+use Rattle.lc_segments.specs.Ran.{Bytes, Ran, Tells}
+use Rattle.lc_segments.specs.declared.held.HeldSide.{HeldSide}
 use Rattle.lc_node.proofs.Runs.{brings_among, ran_among, ran_as}
 use Rattle.lc_node.proofs.SideBytes.{taken_bytes, tidy_bytes}
 

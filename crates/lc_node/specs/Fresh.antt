@@ -1,17 +1,16 @@
 -- What a segment of a recovered store is, as it comes up at a node.
-use Rattle.std.specs.Prelude.{◌≡◌, ℕ, ◌<◌, ◌≤◌, ◌^◌, List, [], length, map, None, Some}
+use Rattle.std.specs.Prelude.{◌≡◌, ℕ, ◌<◌, ◌≤◌, ◌^◌, List, length, map, Some}
 use Rattle.std.specs.List.{flat_map}
 use Rattle.std.specs.Global.{Vec}
 use Rattle.lc_record.specs.Marks.{counting}
 use Rattle.lc_page.specs.PageVector.{new_entry}
 use Rattle.lc_page.specs.declared.page_text.PageText.{PageText}
 use Rattle.lc_recover.specs.Recovered.{RecoveredStore, page_of, sequence_of}
-use Rattle.lc_token.specs.Backlog.{fresh}
 use Rattle.lc_token.specs.declared.token.Token.{Token}
-use Rattle.lc_tx.specs.declared.holders.Holders.TheVariants.{Free}
-use Rattle.lc_node.specs.SegView.{SegView}
+use Rattle.lc_segments.specs.SegView.{SegView}
 use Rattle.lc_node.specs.declared.fresh.FreshSegment.{FreshSegment}
-use Rattle.lc_node.specs.declared.page_area.PageArea.TheVariants.{Elsewhere, Serves}
+use Rattle.lc_segments.specs.declared.page_area.PageArea.TheVariants.{Serves}
+use Rattle.lc_segments.specs.Fresh.{elsewhere_side}
 
 module _ {D : Type 0} where
   -- the pages of a segment, one after another
@@ -29,23 +28,6 @@ module _ {D : Type 0} where
     seq = sequence_of r segment;
     clean = sequence_of r segment;
     pages = map new_entry (segment_texts r segment);
-  }
-
-  -- a segment at a node where its token is not: it has these bytes and counts on from this number; nothing is applied, nothing is
-  -- held back, no token waits, and its pages are elsewhere
-  abbrev pub elsewhere_side : ℕ → ℕ → Vec ℕ → Vec ℕ → SegView D
-  elsewhere_side segment number image base = record {
-    segment = segment;
-    image = Some (record { bytes = image; holders = Free });
-    base = base.items;
-    applied = [];
-    room = 0;
-    runs_room = record { runs = 0; bytes = 0 };
-    backlog = fresh segment number;
-    standing = record { segment = segment; token = None };
-    pages = Elsewhere;
-    since = 0;
-    waiting = None;
   }
 
   -- with its token there, and an area that serves, each page of which was written there

@@ -6,21 +6,21 @@ use Rattle.lc_stage.specs.declared.receipt.Receipt.{Receipt}
 use Rattle.lc_stage.specs.declared.stage_view.StageView.{StageView}
 use Rattle.lc_tx.specs.Tx.{IsSetOf}
 use Rattle.lc_node.specs.Commits.{AreHere, CommitsAmong, CommitsWork, IsFirstGone, IsKept, IsKeptTidy, IsUnbegunOn, IsUncommitted, bytes_at, segments_in}
-use Rattle.lc_node.specs.Each.{Each}
+use Rattle.lc_segments.specs.Each.{Each}
 use Rattle.lc_node.specs.Halting.{IsHalted}
 use Rattle.lc_node.specs.Held.{HasSegment, IsFirstOutside, IsHeldOf}
-use Rattle.lc_node.specs.Ran.{Ran, Tells}
-use Rattle.lc_node.specs.Receipts.{IsOfDevice, Learns, Receives}
+use Rattle.lc_segments.specs.Ran.{Ran, Tells}
+use Rattle.lc_log_side.specs.Receipts.{IsOfDevice, Learns, Receives}
 use Rattle.lc_node.specs.Stages.{Sees}
 use Rattle.lc_node.specs.Truncates.{IsUntruncatedHeld, TruncatesHeld}
 use Rattle.lc_node.specs.declared.commit_kind.Commit.{Commit}
 use Rattle.lc_node.specs.declared.commit_kind.Commit.TheVariants.{Empty, Lazy, Flushed}
 use Rattle.lc_node.specs.declared.commit_kind.Mode.{Mode}
 use Rattle.lc_node.specs.declared.commit_kind.Mode.TheVariants.{Lazy as NotWaiting, Flush as Waiting}
-use Rattle.lc_node.specs.declared.held.HeldSide.{HeldSide}
+use Rattle.lc_segments.specs.declared.held.HeldSide.{HeldSide}
 use Rattle.lc_node.specs.declared.node.Node.{Node}
-use Rattle.lc_node.specs.declared.node_fault.NodeFault.{NodeFault}
-use Rattle.lc_node.specs.declared.node_fault.NodeFault.TheVariants.{Full, Halted, NoMemory, NotHere}
+use Rattle.lc_segments.specs.declared.node_fault.NodeFault.{NodeFault}
+use Rattle.lc_segments.specs.declared.node_fault.NodeFault.TheVariants.{Full, Halted, NoMemory, NotHere}
 
 -- the log had no room for the record
 abbrev pub IsFull : Result Bool NodeFault → Type 0

@@ -1,25 +1,23 @@
 -- What became of a message from a peer at the segments of a node, under the locks that it got.
-use Rattle.std.specs.Prelude.{◌≡◌, ◌⊎◌, ◌↔◌, ℕ, List, ◌∷◌, [], ◌++◌, All, Option, Some, None, Result, Ok, Err, IsSome, IsTrue, map, slice_get}
+use Rattle.std.specs.Prelude.{◌≡◌, ◌⊎◌, ◌↔◌, ℕ, List, All, Option, Some, None, Result, Ok, Err, IsSome, IsTrue, map, slice_get}
 use Rattle.lc_record.specs.Codec.{BeginsNoRecord, BeginsWith}
 use Rattle.lc_record.specs.Record.{record_len}
 use Rattle.lc_record.specs.declared.record.Record.{Record as Spelled}
 use Rattle.lc_tx.specs.Tx.{IsSetOf}
-use Rattle.lc_node.specs.Arriving.{MayArrive, with_token}
+use Rattle.lc_segments.specs.Arriving.{MayArrive, with_token}
 use Rattle.lc_node.specs.Delivering.{Answers, HasArrived, IsDelivered, IsReadiedSide}
-use Rattle.lc_node.specs.Each.{Each}
+use Rattle.lc_segments.specs.Each.{Each}
 use Rattle.lc_node.specs.Held.{HasSegment, IsFirstOutside, IsHeldOf}
-use Rattle.lc_node.specs.Journey.{Journey}
+use Rattle.lc_segments.specs.Journey.{Journey}
 use Rattle.lc_node.specs.Pumping.{pumped_of}
-use Rattle.lc_node.specs.Receiving.{kept_at, taken_at}
-use Rattle.lc_node.specs.SegView.{SegView}
+use Rattle.lc_segments.specs.SegView.{SegView}
 use Rattle.lc_node.specs.declared.delivered.Delivered.{Delivered}
-use Rattle.lc_node.specs.declared.held.HeldSide.{HeldSide}
+use Rattle.lc_segments.specs.declared.held.HeldSide.{HeldSide}
 use Rattle.lc_node.specs.declared.message.Message.{Message}
 use Rattle.lc_node.specs.declared.message.Message.TheVariants.{Record, Token}
 use Rattle.lc_node.specs.declared.node.Node.{Node}
-use Rattle.lc_node.specs.declared.node_fault.NodeFault.{NodeFault}
-use Rattle.lc_node.specs.declared.node_fault.NodeFault.TheVariants.{NotHere, NoMemory}
-use Rattle.lc_node.specs.declared.peer_inbox.PeerInbox.{PeerInbox}
+use Rattle.lc_segments.specs.declared.node_fault.NodeFault.{NodeFault}
+use Rattle.lc_segments.specs.declared.node_fault.NodeFault.TheVariants.{NotHere, NoMemory}
 use Rattle.lc_node.specs.declared.pumped.Pumped.{Pumped}
 use Rattle.lc_node.specs.declared.pumped.Pumped.TheVariants.{Applied, HeldBack, Ignored, Arrived, Waiting, Empty}
 
@@ -87,29 +85,3 @@ module _ {D : Type 0} where
   AnswersMessage node (Record number words) answer (Some back) = (fault : NodeFault) × (answer ≡ Err fault) × AnswersWords node words.items (Err fault)
   AnswersMessage node (Token journey) answer None = (pumped : Pumped) × (answer ≡ Ok pumped) × AnswersJourney node journey (Ok pumped)
   AnswersMessage node (Token journey) answer (Some back) = (answer ≡ Ok Waiting) × AnswersJourney node journey (Err journey)
-
-module _ {P : Type 0} where
-  -- the message of the peer at this place that was to be gone on with: the kept one, and else the next that was taken
-  abbrev pub IsNextAt : List (PeerInbox P) → ℕ → Message P → List (PeerInbox P) → Type 0
-  IsNextAt old place message new =
-      ((kept_at old place ≡ Some message) × (taken_at new place ≡ taken_at old place))
-      ⊎ ((kept_at old place ≡ None) × (taken_at new place ≡ taken_at old place ++ message ∷ []))
-
-  -- nothing was kept of this peer, and nothing was taken from it
-  pub record IsIdleAt (old : List (PeerInbox P)) (place : ℕ) (new : List (PeerInbox P)) : Type 0 where
-    pub before : kept_at old place ≡ None
-    pub after : kept_at new place ≡ None
-    pub taken : taken_at new place ≡ taken_at old place
-
-module _ {D : Type 0} where
-  -- a node went on with the next message of the peer at this place, which is kept where it comes back
-  pub record GoesOnAt (node : Node D) (old : List (PeerInbox (Journey D))) (place : ℕ) (answer : Result Pumped NodeFault) (new : List (PeerInbox (Journey D))) : Type 0 where
-    pub message : Message (Journey D)
-    pub next : IsNextAt old place message new
-    pub back : Option (Message (Journey D))
-    pub answers : AnswersMessage node message answer back
-    pub kept : kept_at new place ≡ back
-
-  -- or none had come
-  abbrev pub Pumps : Node D → List (PeerInbox (Journey D)) → ℕ → Result Pumped NodeFault → List (PeerInbox (Journey D)) → Type 0
-  Pumps node old place answer new = ((answer ≡ Ok Empty) × IsIdleAt old place new) ⊎ GoesOnAt node old place answer new

@@ -6,7 +6,7 @@ use Rattle.lc_recover.specs.Recovered.{RecoveredStore}
 use Rattle.lc_stage.specs.Seats.{commit_view}
 use Rattle.lc_stage.specs.Staging.{newcomer}
 use Rattle.lc_node.specs.Fresh.{HasWholePages, IsFresh}
-use Rattle.lc_node.specs.Pages.{FitsToken}
+use Rattle.lc_segments.specs.Pages.{FitsToken}
 use Rattle.lc_applied.specs.AppliedParts.{laid_parts}
 use Rattle.lc_node.specs.declared.node_room.NodeRoom.{NodeRoom}
 use Rattle.lc_node.specs.declared.seg_room.SegRoom.{SegRoom}

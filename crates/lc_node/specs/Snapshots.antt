@@ -1,8 +1,8 @@
 -- What a copy has of a segment.
 use Rattle.std.specs.Prelude.{◌≡◌}
 use Rattle.lc_applied.specs.AppliedParts.{laid_parts}
-use Rattle.lc_node.specs.SegView.{SegView}
-use Rattle.lc_node.specs.declared.snapshot.Snapshot.{Snapshot}
+use Rattle.lc_segments.specs.SegView.{SegView}
+use Rattle.lc_segments.specs.declared.snapshot.Snapshot.{Snapshot}
 
 -- the copy has the segment's bytes, and the number of the last record that they have
 pub record IsCopyOf {D : Type 0} (side : SegView D) (copy : Snapshot) : Type 0 where

@@ -1,9 +1,9 @@
 -- What a running node tells of its log and of its tokens, as was seen under the lock.
 use Rattle.std.specs.Prelude.{◌≡◌, ◌↔◌, ℕ, Bool, IsSome, IsTrue, length}
 use Rattle.lc_node.specs.Held.{IsHeldOf}
-use Rattle.lc_node.specs.LogView.{LogView}
+use Rattle.lc_log_side.specs.LogView.{LogView}
 use Rattle.lc_node.specs.Logs.{IsLogOf}
-use Rattle.lc_node.specs.declared.held.HeldSide.{HeldSide}
+use Rattle.lc_segments.specs.declared.held.HeldSide.{HeldSide}
 use Rattle.lc_node.specs.declared.node.Node.{Node}
 
 module _ {D : Type 0} where

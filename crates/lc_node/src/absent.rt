@@ -2,8 +2,8 @@
 ghost use Rattle.std.specs.Prelude.{◌≡◌, ◌↔◌, ℕ, IfNone, Some};
 ghost use Rattle.lc_node.specs.Commits.{AreHere, IsFirstGone};
 
-use crate::held::HeldSide;
 use lc_disk::Area;
+use lc_segments::HeldSide;
 
 /// The first of these segments whose token is not here.
 pub(crate) fn first_absent<D: Area + Drop>(sides: &[HeldSide<D>]) -> Option<u32>

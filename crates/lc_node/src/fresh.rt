@@ -2,33 +2,29 @@
 ghost use Rattle.std.specs.Prelude.{◌≡◌, ℕ, ◌<◌, ◌≤◌, length, map, IfOk, OnOk};
 ghost use Rattle.lc_page.specs.PageVector.{new_entry};
 ghost use Rattle.lc_recover.specs.Recovered.{page_of, sequence_of};
-ghost use Rattle.lc_node.specs.Fresh.{HasWholePages, IsFresh, elsewhere_side, fresh_side, segment_bytes, segment_texts};
-ghost use Rattle.lc_node.specs.Pages.{FitsToken};
+ghost use Rattle.lc_node.specs.Fresh.{HasWholePages, IsFresh, fresh_side, segment_bytes, segment_texts};
+ghost use Rattle.lc_segments.specs.Pages.{FitsToken};
 ghost use Rattle.lc_applied.specs.AppliedParts.{laid_parts};
 
-use crate::SegSide;
-use crate::boxed_side::BoxedSide;
-use crate::page_area::PageArea;
-use lc_applied::AppliedParts;
 use lc_disk::Area;
 use lc_page::PageVector;
 use lc_record::PAGE;
 use lc_recover::Recovered;
-use lc_token::{HoldBack, Token, TokenPlace};
-use lc_tx::Image;
+use lc_segments::{BoxedSide, SegSide};
+use lc_token::Token;
 use std::alloc::{AllocError, Global};
 
 /// What a segment needs of memory at a node, with what the recovery has made of it: the segment as it is where its
 /// token is not, and its token.
 #[derive(Drop)]
-pub(crate) struct FreshSegment<D: Area + Drop> {
+pub struct FreshSegment<D: Area + Drop> {
     pub(crate) side: BoxedSide<D>,
     pub(crate) token: Token,
 }
 
 impl<D: Area + Drop> FreshSegment<D> {
     /// That of a segment, from 1.
-    pub(crate) fn new(
+    pub fn new(
         alloc: Global,
         segment: u32,
         recovered: &Recovered<D>,
@@ -69,38 +65,6 @@ impl<D: Area + Drop> FreshSegment<D> {
             token: _token,
         } = self;
         side
-    }
-}
-
-impl<D: Area + Drop> SegSide<D> {
-    // A segment of these bytes, twice, at a node where its token is not. The records up to a number are applied. It
-    // takes no memory.
-    fn elsewhere(
-        alloc: Global,
-        segment: u32,
-        number: u64,
-        image: Vec<u8>,
-        base: Vec<u8>,
-    ) -> SegSide<D>
-        requires same { image.items ≡ base.items }
-        requires first { 1 ≤ segment }
-        requires last { segment ≤ 16 }
-        requires short { length base.items ≤ 262144 }
-        ensures { result ≡ elsewhere_side segment number image base }
-    {
-        SegSide {
-            segment,
-            image: Some(Image::new(image)),
-            base: Image::new(base),
-            applied: AppliedParts::new(alloc),
-            stored: 0,
-            hold_back: HoldBack::new(alloc, segment, number),
-            token: TokenPlace::new(segment, None),
-            pages: PageArea::Elsewhere,
-            since: 0,
-            waiting: None,
-            scratch: None,
-        }
     }
 }
 

@@ -1,25 +1,25 @@
 //! Whether a call of one of a node's devices has failed.
-ghost use Rattle.std.specs.Prelude.{◌≡◌, ◌⊎◌, ◌↔◌, false, true, Err, IfErr, IfOk, IsTrue, OnOk};
+ghost use Rattle.std.specs.Prelude.{◌≡◌, ◌⊎◌, ◌↔◌, true, Err, IfErr, IfOk, IsTrue};
 ghost use Rattle.lc_stage.specs.Seats.{IsFlusherOf, IsSeatOf};
-ghost use Rattle.lc_node.specs.Ended.{LacksRoom};
-ghost use Rattle.lc_node.specs.Flushes.{Flushes, IsUnflushed};
-ghost use Rattle.lc_node.specs.Halting.{HasHalted, IsHalting, IsUntruncatable};
-ghost use Rattle.lc_node.specs.LogView.{LogView};
-ghost use Rattle.lc_node.specs.Published.{published, Publishes};
-ghost use Rattle.lc_node.specs.Resets.{CanReset, Empties, IsSameInRoom, IsSpent, IsUnemptied};
-ghost use Rattle.lc_node.specs.declared.node_fault.NodeFault.TheVariants.{Halted, NoMemory, RoundsSpent};
+ghost use Rattle.lc_log_side.specs.Ended.{LacksRoom};
+ghost use Rattle.lc_log_side.specs.Flushes.{Flushes, IsUnflushed};
+ghost use Rattle.lc_node.specs.Halting.{HasHalted, IsHalting};
+ghost use Rattle.lc_log_side.specs.LogView.{LogView};
+ghost use Rattle.lc_log_side.specs.Published.{published, Publishes};
+ghost use Rattle.lc_log_side.specs.Resets.{CanReset, Empties, IsUnemptied};
+ghost use Rattle.lc_node.specs.Resets.{IsSameInRoom};
+ghost use Rattle.lc_segments.specs.declared.node_fault.NodeFault.TheVariants.{Halted, NoMemory};
 
-use crate::log_state::LogState;
-use crate::resetting::LAST_ROUND;
-use crate::{LogSide, Node, NodeFault};
+use crate::node::Node;
 use lc_disk::Area;
+use lc_log_side::LogSide;
+use lc_segments::NodeFault;
 use std::marker::PhantomData;
-use std::mem;
 use std::sync::atomic::Ordering::SeqCst;
 use std::sync::atomic::Rule;
 
 /// The rule of a node's word that is 0 until a call of a device fails: any other value tells that a log is halted.
-pub(crate) struct Halting<D> {
+pub struct Halting<D> {
     device: PhantomData<D>,
 }
 
@@ -29,38 +29,6 @@ impl<D> Rule for Halting<D> {
 
 // What the word is where a call has failed.
 const FAILED: u64 = 1;
-
-impl<D: Area + Drop> LogSide<D> {
-    /// The log serves no more, since a call on the pages of a segment failed.
-    pub(crate) fn halt(&mut self)
-        ensures { self.new ≡ record self.old { is_halted = true } }
-    {
-        self.log = match mem::replace(&mut self.log, LogState::Taken) {
-            LogState::Idle(log) => LogState::Stopped(log),
-            state => state,
-        };
-    }
-
-    /// Whether the log may be truncated at all.
-    ///
-    /// # Errors
-    ///
-    /// `Halted` exactly where it serves no more, and else `RoundsSpent` exactly where it is in its last round.
-    pub fn may_truncate(&self) -> Result<(), NodeFault>
-        ensures halted { (result ≡ Err Halted) ↔ (self.now.is_halted ≡ true) }
-        ensures spent { (result ≡ Err RoundsSpent) ↔ ((self.now.is_halted ≡ false) × IsSpent self.now) }
-        ensures may { OnOk result ((self.now.is_halted ≡ false) × ¬ IsSpent self.now) }
-        ensures refused { IfErr result (IsUntruncatable self.now) }
-    {
-        if self.is_halted() {
-            return Err(NodeFault::Halted);
-        }
-        if self.round == LAST_ROUND {
-            return Err(NodeFault::RoundsSpent);
-        }
-        Ok(())
-    }
-}
 
 impl<D: Area + Drop> Node<D> {
     /// Whether a call of a device has failed, of the log's or of those of the segments' pages: each commit and each

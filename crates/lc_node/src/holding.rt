@@ -1,17 +1,17 @@
 //! The locks of segments, got in ascending order and given back.
-ghost use Rattle.std.specs.Prelude.{◌≡◌, ◌+◌, ◌-◌, ◌<◌, ◌≤◌, ◌↔◌, ℕ, All, Err, Some, length, IfOk, IfErr, IfNone};
-ghost use Rattle.std.specs.Prelude.{IsSome, IsTrue};
+ghost use Rattle.std.specs.Prelude.{◌≡◌, ◌<◌, ◌↔◌, ℕ, All, Err, Some, length, IfOk, IfErr, IfNone};
+ghost use Rattle.std.specs.Prelude.{IsTrue};
 ghost use Rattle.lc_lock.specs.Loans.{key_of};
 ghost use Rattle.lc_record.specs.Transaction.{is_member};
 ghost use Rattle.lc_tx.specs.Tx.{IsSetOf};
 ghost use Rattle.lc_node.specs.Held.{HasSegment, IsFirstOutside, IsHeldOf, IsUnheld, segments_of};
-ghost use Rattle.lc_node.specs.declared.node_fault.NodeFault.TheVariants.{NotHere, NoMemory};
+ghost use Rattle.lc_segments.specs.declared.node_fault.NodeFault.TheVariants.{NotHere, NoMemory};
 
-use crate::boxed_side::BoxedSide;
-use crate::held::{Held, HeldSide};
-use crate::{Node, NodeFault};
+use crate::held::Held;
+use crate::node::Node;
 use lc_disk::Area;
 use lc_lock::TicketLock;
+use lc_segments::{BoxedSide, HeldSide, NodeFault};
 use std::alloc::Global;
 use std::sync::Wait;
 
@@ -23,8 +23,8 @@ impl<D: Area + Drop> Node<D> {
         segment > 0 && segment as usize <= self.segments.len()
     }
 
-    // The lock of a segment.
-    pub(crate) fn lock_of(&self, segment: u32) -> &TicketLock<BoxedSide<D>, u32>
+    /// The lock of a segment.
+    pub fn lock_of(&self, segment: u32) -> &TicketLock<BoxedSide<D>, u32>
         requires { HasSegment self.now segment }
         ensures { key_of result.now ≡ segment }
     {

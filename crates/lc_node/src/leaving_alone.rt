@@ -2,13 +2,14 @@
 ghost use Rattle.std.specs.Prelude.{◌≡◌, All, IfErr, IfOk, Some, slice_get, true};
 ghost use Rattle.lc_rest.specs.Parts.{AreKept};
 ghost use Rattle.lc_rest.specs.declared.node_part.NodePart.{NodePart as ThePart};
-ghost use Rattle.lc_node.specs.LeftBy.{AreReceived, IsIdleSeatOf};
+ghost use Rattle.lc_log_side.specs.LeftBy.{AreReceived, IsIdleSeatOf};
 ghost use Rattle.lc_node.specs.Refusals.{StopsParts};
 
+use crate::node::Node;
 use crate::ordering_tokens::in_order;
-use crate::{Node, NodeFault};
 use lc_disk::Area;
 use lc_rest::Parts;
+use lc_segments::NodeFault;
 use lc_stage::CommitSeat;
 use std::alloc::Global;
 use std::sync::Wait;

@@ -1,123 +1,62 @@
-//! Running nodes: the record of a receipt stands in its log, and what the threads of a cluster left is handed over,
-//! where it is not refused, as their types keep it.
+//! Running nodes: the record of a receipt stands in its log, and what the threads of a node left is handed over, where
+//! it is not refused, as their types keep it.
 #![tactic(auto)]
 
 mod absent;
-mod applying;
 mod areas;
-mod arriving;
 mod attempting;
-mod boxed_side;
 mod cleaning;
-mod closing_lines;
-mod cluster;
-mod clustering;
-mod coming_to_rest;
 mod commit_kind;
 mod committing;
-mod confirming;
-mod copying;
 mod delivered;
-mod delivering;
-mod dropped;
-mod ending;
-mod exchanging;
-mod flushing;
 mod forgetting;
 mod fresh;
 mod gate;
-mod get;
-mod giving;
-mod growing;
 mod halting;
 mod held;
 mod holding;
-mod joining;
-mod laws;
-mod leaving;
 mod leaving_alone;
-mod leaving_log;
 mod leaving_nodes;
 mod leaving_segments;
 mod lending;
-mod lent;
 mod locked_commit;
 mod log_room;
-mod log_side;
-mod log_state;
 mod making_room;
-mod member;
 mod message;
 mod node;
-mod node_fault;
 mod node_room;
 mod opening;
 mod ordering_tokens;
-mod page_area;
-mod page_writes;
-mod peer_end;
-mod peer_inbox;
-mod peers;
-mod places;
 mod preparing;
-mod publishing;
 mod pumped;
 mod pumping;
-mod put;
-mod receiving;
 mod receiving_records;
-mod reception;
-mod recv_ends;
-mod reserved;
-mod resetting;
 mod room_turn;
 mod running;
-mod scratch;
-mod seeing;
 mod seg_room;
-mod seg_side;
-mod send_ends;
-mod sending;
-mod sending_tokens;
 mod settling;
 mod share;
 mod snapshot;
-mod spreading;
 mod staging;
 mod store_room;
 mod taking_out;
 mod telling;
-mod touching;
 mod transacting;
-mod travelling;
-mod trimming;
 mod truncating;
 mod trying;
 mod vacant;
-mod wiring;
-mod work;
 
-pub use cluster::Cluster;
 pub use commit_kind::{Commit, Mode};
-pub use confirming::Confirmed;
 pub use gate::Gate;
-pub use get::Get;
 pub use held::Held;
-pub use laws::{
-    starts_stay, work_is_laid_over, works_nothing, works_range, works_then, works_write,
+pub use lc_log_side::{Confirmed, LogSide};
+pub use lc_segments::{
+    Get, NodeFault, Put, SegSide, Snapshot, Travelling, Work, starts_stay, work_is_laid_over,
+    works_nothing, works_range, works_then, works_write,
 };
-pub use log_side::LogSide;
 pub use message::Message;
 pub use node::Node;
-pub use node_fault::NodeFault;
-pub use peer_end::PeerEnd;
-pub use peer_inbox::PeerInbox;
+pub use opening::{OpenedNode, open_first};
+pub use ordering_tokens::in_order;
 pub use pumped::Pumped;
-pub use put::Put;
-pub use recv_ends::RecvEnds;
-pub use seg_side::SegSide;
-pub use send_ends::SendEnds;
-pub use snapshot::Snapshot;
-pub use spreading::Spread;
-pub use travelling::Travelling;
-pub use work::Work;
+pub use vacant::Vacant;

@@ -4,9 +4,10 @@ ghost use Rattle.lc_stage.specs.Seats.{commit_view, IsSeatOf, IsIdle};
 ghost use Rattle.lc_node.specs.Commits.{CommitsAmong};
 
 use crate::committing::commit_on;
-use crate::held::HeldSide;
-use crate::{Gate, Node, NodeFault, Work};
+use crate::gate::Gate;
+use crate::node::Node;
 use lc_disk::Area;
+use lc_segments::{HeldSide, NodeFault, Work};
 use lc_stage::CommitSeat;
 use std::alloc::Global;
 use std::slice;

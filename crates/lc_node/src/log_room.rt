@@ -5,18 +5,18 @@ ghost use Rattle.lc_lock.specs.declared.ticket_lock.TicketLock.{TicketLock as Ke
 ghost use Rattle.lc_lock.specs.Loans.{key_of};
 ghost use Rattle.lc_stage.specs.Staging.{newcomer, flusher as first_flusher};
 ghost use Rattle.lc_stage.specs.Seats.{commit_view, flush_view, IsFlusherOf, IsSeatOf};
-ghost use Rattle.lc_node.specs.SegView.{SegView};
+ghost use Rattle.lc_segments.specs.SegView.{SegView};
 
-use crate::boxed_side::BoxedSide;
-use crate::log_state::LogState;
+use crate::node::Node;
 use crate::room_turn::RoomTurn;
 use crate::vacant::Vacant;
-use crate::{LogSide, Node};
 use lc_disk::Area;
 use lc_ended::Ended;
 use lc_lock::TicketLock;
 use lc_log::NodeLog;
+use lc_log_side::{LogSide, LogState};
 use lc_record::{Geometry, Group};
+use lc_segments::BoxedSide;
 use lc_stage::{CommitSeat, FlushSeat, Stage};
 use lc_trunc::KnownClean;
 use std::alloc::{AllocError, Global};
@@ -24,8 +24,8 @@ use std::sync::atomic::AtomicIn;
 
 /// A node's stage with the first committer's seat, and its log before the area is there. It is never dropped: it ends
 /// in `open` or in `discard`.
-pub(crate) struct LogRoom<D: Area + Drop> {
-    pub(crate) stage: Stage,
+pub struct LogRoom<D: Area + Drop> {
+    pub stage: Stage,
     pub(crate) seat: CommitSeat,
     flusher: FlushSeat,
     probe: CommitSeat,
@@ -33,7 +33,7 @@ pub(crate) struct LogRoom<D: Area + Drop> {
     stable: Vec<u64>,
     ended: Ended,
     room_turns: TicketLock<RoomTurn, ()>,
-    lock: Vacant<LogSide<D>, Stage>,
+    pub lock: Vacant<LogSide<D>, Stage>,
     ghost own_seat: { IsSeatOf stage seat },
     ghost own_probe: { IsSeatOf stage probe },
     ghost own_flusher: { IsFlusherOf stage flusher },
@@ -48,7 +48,7 @@ pub(crate) struct LogRoom<D: Area + Drop> {
 
 impl<D: Area + Drop> LogRoom<D> {
     /// That of a log of so many words.
-    pub(crate) fn new(alloc: Global, words: u32) -> Result<LogRoom<D>, AllocError>
+    pub fn new(alloc: Global, words: u32) -> Result<LogRoom<D>, AllocError>
         requires { (0 < words) × (words < 32768) }
         ensures room { IfOk result (λ log. log.stage.room ≡ words) }
         ensures seat { IfOk result (λ log. commit_view log.seat ≡ newcomer words) }
@@ -136,7 +136,7 @@ impl<D: Area + Drop> LogRoom<D> {
     }
 
     /// The log does not come up.
-    pub(crate) fn discard(self) {
+    pub fn discard(self) {
         let LogRoom {
             stage: _stage,
             seat: _seat,

@@ -6,16 +6,19 @@ ghost use Rattle.lc_node.specs.Commits.{segments_in};
 ghost use Rattle.lc_node.specs.Held.{IsFirstOutside, IsHeldOf, IsUnheld};
 ghost use Rattle.lc_node.specs.MakingRoom.{AllHeld, CommitsAlone, CommitsFirst, CommitsInRoom, CommitsOrEmpties};
 ghost use Rattle.lc_node.specs.MakingRoom.{EndsClosed, TransactsInRoom};
-ghost use Rattle.lc_node.specs.Receipts.{HasReceipt};
+ghost use Rattle.lc_log_side.specs.Receipts.{HasReceipt};
 ghost use Rattle.lc_stage.specs.declared.receipt.Receipt.{Receipt as Given};
 ghost use Rattle.lc_node.specs.declared.commit_kind.Commit.TheVariants.{Flushed};
-ghost use Rattle.lc_node.specs.declared.node_fault.NodeFault.TheVariants.{NoMemory, NotHere};
+ghost use Rattle.lc_segments.specs.declared.node_fault.NodeFault.TheVariants.{NotHere};
 
+use crate::commit_kind::{Commit, Mode};
 use crate::committing::commit_on;
-use crate::held::{Held, HeldSide};
+use crate::gate::Gate;
+use crate::held::Held;
 use crate::holding::is_asked;
-use crate::{Commit, Gate, Mode, Node, NodeFault, Work};
+use crate::node::Node;
 use lc_disk::Area;
+use lc_segments::{HeldSide, NodeFault, Work};
 use lc_stage::CommitSeat;
 use std::alloc::{AllocError, Global};
 use std::sync::Wait;
@@ -23,7 +26,7 @@ use std::sync::Wait;
 /// All segments of a node, held. The first so many are those that were asked for.
 struct HeldAll<D: Area + Drop> {
     held: Held<D>,
-    count: usize,
+    pub count: usize,
 }
 
 impl<D: Area + Drop> Node<D> {

@@ -2,15 +2,15 @@
 ghost use Rattle.std.specs.Prelude.{◌≡◌, ◌+◌, ◌≤◌, ℕ, true, Some, slice_get, vec_len};
 ghost use Rattle.lc_lock.specs.declared.ticket_lock.TicketLock.{TicketLock as Keeps};
 ghost use Rattle.lc_lock.specs.Loans.{key_of};
-ghost use Rattle.lc_node.specs.SegView.{SegView};
+ghost use Rattle.lc_segments.specs.SegView.{SegView};
 
-use crate::LogSide;
-use crate::boxed_side::BoxedSide;
 use crate::halting::Halting;
 use crate::room_turn::RoomTurn;
 use lc_disk::Area;
 use lc_lock::TicketLock;
+use lc_log_side::LogSide;
 use lc_record::Geometry;
+use lc_segments::BoxedSide;
 use lc_stage::Stage;
 use std::sync::atomic::AtomicIn;
 

@@ -4,7 +4,6 @@ ghost use Rattle.lc_stage.specs.Seats.{IsSeatOf};
 ghost use Rattle.lc_node.specs.Rooms.{AreOfSegments, FitsLog, FitRooms, IsRoomFor};
 ghost use Rattle.lc_node.specs.Shares.{AreShared};
 
-use crate::boxed_side::BoxedSide;
 use crate::log_room::LogRoom;
 use crate::opening::OpenedNode;
 use crate::seg_room::{SegRoom, discard_all, fill_all, rooms_of};
@@ -13,18 +12,19 @@ use lc_disk::Area;
 use lc_lock::TicketLock;
 use lc_record::Geometry;
 use lc_recover::Recovered;
+use lc_segments::BoxedSide;
 use std::alloc::{AllocError, Global};
 
 /// All memory of a node. It is never dropped: it ends in `open` or in `discard`.
-pub(crate) struct NodeRoom<D: Area + Drop> {
-    pub(crate) log: LogRoom<D>,
-    pub(crate) segments: Vec<SegRoom<D>>,
+pub struct NodeRoom<D: Area + Drop> {
+    pub log: LogRoom<D>,
+    pub segments: Vec<SegRoom<D>>,
     pub(crate) locks: Vec<TicketLock<BoxedSide<D>, u32>>,
 }
 
 impl<D: Area + Drop> NodeRoom<D> {
     /// That of a node of a store.
-    pub(crate) fn new(alloc: Global, recovered: &Recovered<D>) -> Result<NodeRoom<D>, AllocError>
+    pub fn new(alloc: Global, recovered: &Recovered<D>) -> Result<NodeRoom<D>, AllocError>
         ensures { IfOk result (IsRoomFor recovered.now) }
     {
         let geometry = recovered.geometry();
@@ -81,7 +81,7 @@ impl<D: Area + Drop> NodeRoom<D> {
     }
 
     /// The node does not come up.
-    pub(crate) fn discard(self) {
+    pub fn discard(self) {
         let NodeRoom {
             log,
             segments,

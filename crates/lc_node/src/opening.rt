@@ -6,21 +6,22 @@ ghost use Rattle.lc_recover.specs.Recovered.{AreFinished};
 ghost use Rattle.lc_stage.specs.Staging.{newcomer};
 ghost use Rattle.lc_stage.specs.Seats.{commit_view, IsSeatOf};
 ghost use Rattle.lc_node.specs.OpenedNode.{IsOpened, StandByNumber};
-ghost use Rattle.lc_node.specs.declared.node_fault.NodeFault.TheVariants.{NoMemory};
+ghost use Rattle.lc_segments.specs.declared.node_fault.NodeFault.TheVariants.{NoMemory};
 
+use crate::node::Node;
 use crate::store_room::StoreRoom;
-use crate::{Node, NodeFault};
 use lc_disk::Area;
 use lc_record::Geometry;
 use lc_recover::Recovered;
+use lc_segments::NodeFault;
 use lc_stage::CommitSeat;
 use std::alloc::Global;
 
 /// A node of a recovered store, and its first committer's seat.
 #[derive(Drop)]
-pub(crate) struct OpenedNode<D: Area + Drop> {
-    pub(crate) node: Node<D>,
-    pub(crate) seat: CommitSeat,
+pub struct OpenedNode<D: Area + Drop> {
+    pub node: Node<D>,
+    pub seat: CommitSeat,
 }
 
 impl<D: Area + Drop> Node<D> {
@@ -71,30 +72,8 @@ fn with_one_node(geometry: Geometry) -> Geometry
     Geometry::new(1, threads, segments, pages, words).unwrap()
 }
 
-/// All nodes of a recovered store, in the order of their numbers, each with its own log, and the first committer's seat
-/// of each. The token of a segment is at the node whose number is the segment's modulo the number of nodes. All memory
-/// is taken before the store is taken apart.
-///
-/// # Errors
-///
-/// `NoMemory`, which alone it may lack. The store comes back as it was.
-pub(crate) fn open_nodes<D: Area + Drop>(
-    alloc: Global,
-    recovered: Recovered<D>,
-) -> Result<Vec<OpenedNode<D>>, (Recovered<D>, NodeFault)>
-    requires lengths { HaveLengths D.Area recovered.geometry recovered.areas }
-    requires finished { AreFinished D.Area recovered }
-    ensures count { IfOk result (λ nodes. length nodes.items ≡ recovered.geometry.nodes) }
-    ensures each { IfOk result (λ nodes. All (IsOpened recovered) nodes.items) }
-    ensures numbered { IfOk result (λ nodes. StandByNumber nodes.items) }
-    ensures back { IfErr result (λ back. (back.0 ≡ recovered) × (back.1 ≡ NoMemory)) }
-{
-    let nodes = recovered.geometry().nodes;
-    open_first(alloc, recovered, nodes)
-}
-
-// The first nodes of a store, so many, which share its tokens.
-fn open_first<D: Area + Drop>(
+/// The first nodes of a store, so many, which share its tokens.
+pub fn open_first<D: Area + Drop>(
     alloc: Global,
     recovered: Recovered<D>,
     nodes: u16,

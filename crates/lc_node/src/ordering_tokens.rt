@@ -1,17 +1,17 @@
-//! The tokens of a cluster in the order of their segments.
+//! Tokens in the order of their segments.
 ghost use Rattle.std.specs.Prelude.{◌≡◌, ◌==◌, ◌+◌, ℕ, All, IfErr, IfOk, OnOk, Some, length, position, slice_get};
 ghost use Rattle.lc_rest.specs.Parts.{KeepsPages};
 ghost use Rattle.lc_rest.specs.declared.cluster_part.ClusterPart.TheVariants.{Token};
 ghost use Rattle.lc_rest.specs.declared.segment_part.SegmentPart.{SegmentPart as ThePart};
-ghost use Rattle.lc_node.specs.LeftBy.{IsSettledPart};
+ghost use Rattle.lc_segments.specs.LeftBy.{IsSettledPart};
 ghost use Rattle.lc_node.specs.Refusals.{HasToken, StopsTokens, TakesOut, first_of};
-ghost use Rattle.lc_node.specs.declared.node_fault.NodeFault.TheVariants.{Mismatch};
+ghost use Rattle.lc_segments.specs.declared.node_fault.NodeFault.TheVariants.{Mismatch};
 
-use crate::NodeFault;
 use lc_disk::Area;
 use lc_page::SLOT_BYTES;
 use lc_record::Geometry;
 use lc_rest::{ClusterPart, SegmentPart};
+use lc_segments::NodeFault;
 use std::alloc::Global;
 
 /// These tokens in the order of their segments, from segment 1 on: there is just one of each.
@@ -20,7 +20,7 @@ use std::alloc::Global;
 ///
 /// `Mismatch` of the first segment of which there is no token, or whose first one has not as many pages as the
 /// geometry's segments, in an area of as many; and else of the first token that is left over. `NoMemory`.
-pub(crate) fn in_order<D: Area + Drop>(
+pub fn in_order<D: Area + Drop>(
     alloc: Global,
     geometry: &Geometry,
     tokens: Vec<SegmentPart<D>>,

@@ -1,5 +1,4 @@
 //! What a pump did.
-
 /// What became of the next message from a peer.
 #[derive(Clone, Copy, Debug, PartialEq, Eq)]
 pub enum Pumped {

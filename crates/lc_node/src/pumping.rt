@@ -1,18 +1,18 @@
-//! A message from a peer is gone on with.
-ghost use Rattle.std.specs.Prelude.{◌≡◌, ◌≢◌, ◌<◌, ℕ, List, Ok, length, slice_get, map, IfOk, IfErr, IsSome, OnErr};
+//! A message of a peer is taken in.
+ghost use Rattle.std.specs.Prelude.{◌≡◌, IfOk, IfErr, IsSome};
 ghost use Rattle.std.specs.Option.{ForSome};
 ghost use Rattle.lc_node.specs.Held.{IsUnheld};
-ghost use Rattle.lc_node.specs.Receiving.{SameOrigins};
-ghost use Rattle.lc_node.specs.Journey.{Journey};
-ghost use Rattle.lc_node.specs.Pumping.{GoesOn, IsGoneOn, IsOfMessage, IsOfRecord, IsOfToken, pumped_of};
-ghost use Rattle.lc_node.specs.Reached.{AnswersJourney, AnswersMessage, AnswersWords, Pumps, locked_in};
-ghost use Rattle.lc_node.specs.declared.message.Message.{Message as Sent};
+ghost use Rattle.lc_node.specs.Pumping.{IsOfMessage, IsOfRecord, IsOfToken, pumped_of};
+ghost use Rattle.lc_node.specs.Reached.{AnswersJourney, AnswersMessage, AnswersWords, locked_in};
 ghost use Rattle.lc_node.specs.declared.pumped.Pumped.TheVariants.{Waiting};
 
 use crate::delivered::Delivered;
-use crate::{Message, Node, NodeFault, Pumped, RecvEnds, Travelling};
+use crate::message::Message;
+use crate::node::Node;
+use crate::pumped::Pumped;
 use lc_disk::Area;
 use lc_record::View;
+use lc_segments::{NodeFault, Travelling};
 use lc_token::Received;
 use smallvec::SmallVec;
 use std::alloc::{AllocError, Global};
@@ -107,7 +107,7 @@ impl Delivered {
 impl<D: Area + Drop> Node<D> {
     /// Goes on with a message: a record is taken in at all its segments, a token arrives or waits. The message comes
     /// back where it is refused, and where a token cannot wait.
-    pub(crate) fn receive<R: Wait>(
+    pub fn receive<R: Wait>(
         &self,
         rt: &R,
         alloc: Global,
@@ -129,39 +129,5 @@ impl<D: Area + Drop> Node<D> {
                 Err(journey) => (Ok(Pumped::Waiting), Some(Message::Token(journey))),
             },
         }
-    }
-}
-
-impl<D: Area + Drop> RecvEnds<Travelling<D>> {
-    /// Goes on with the next message of a peer, by its place among the peers: the one that is kept, and else the next
-    /// that is taken. A record is taken in at all its segments, a token arrives or waits. A message that is refused is
-    /// kept for the next call.
-    pub(crate) fn pump<R: Wait>(
-        &mut self,
-        rt: &R,
-        alloc: Global,
-        node: &Node<D>,
-        peer: usize,
-    ) -> Result<Pumped, NodeFault>
-        requires peer { peer < length self.old.ends.items }
-        ensures pumps { Pumps node.now self.old.ends.items peer result self.new.ends.items }
-        ensures gone_on { (gone : List (Sent (Journey D))) → IsGoneOn self.old.ends.items peer gone
-            → IfOk result (λ pumped. GoesOn pumped gone self.new.ends.items peer) }
-        ensures kept { (gone : List (Sent (Journey D))) → IsGoneOn self.old.ends.items peer gone
-            → OnErr result (IsGoneOn self.new.ends.items peer gone) }
-        ensures refused { IfErr result IsUnheld }
-        ensures others { (other : ℕ) → other ≢ peer
-            → slice_get self.new.ends.items other ≡ slice_get self.old.ends.items other }
-        ensures count { length self.new.ends.items ≡ length self.old.ends.items }
-        ensures lines { SameOrigins self.old.ends.items self.new.ends.items }
-    {
-        let Some(message) = self.next_at(rt, peer) else {
-            return Ok(Pumped::Empty);
-        };
-        let (pumped, back) = node.receive(rt, alloc, message);
-        if let Some(message) = back {
-            self.keep_at(peer, message);
-        }
-        pumped
     }
 }

@@ -3,19 +3,20 @@ ghost use Rattle.std.specs.Prelude.{◌≡◌, ◌≤◌, ◌<◌, ◌↔◌, �
 ghost use Rattle.std.specs.Prelude.{OnErr, length, slice_get, vec_capacity, true, false};
 ghost use Rattle.lc_record.specs.declared.record.Record.{Record as Spelled};
 ghost use Rattle.lc_node.specs.Delivering.{Answers, HasArrived, IsDelivered, IsReadiedSide};
-ghost use Rattle.lc_node.specs.Each.{Each, EachThree};
+ghost use Rattle.lc_segments.specs.Each.{Each};
+ghost use Rattle.lc_node.specs.Each.{EachThree};
 ghost use Rattle.lc_node.specs.Held.{IsHeldOf};
-ghost use Rattle.lc_node.specs.Receptions.{CanFinish, IsFinished, IsPrepared, IsReceived};
-ghost use Rattle.lc_node.specs.declared.held.HeldSide.{HeldSide as Side};
+ghost use Rattle.lc_segments.specs.Receptions.{CanFinish, IsReceived};
+ghost use Rattle.lc_node.specs.Receptions.{IsFinished, IsPrepared};
+ghost use Rattle.lc_segments.specs.declared.held.HeldSide.{HeldSide as Side};
 ghost use Rattle.lc_node.specs.declared.node.Node.{Node as TheNode};
-ghost use Rattle.lc_node.specs.declared.node_fault.NodeFault.TheVariants.{NoMemory};
+ghost use Rattle.lc_segments.specs.declared.node_fault.NodeFault.TheVariants.{NoMemory};
 
-use crate::NodeFault;
 use crate::delivered::Delivered;
-use crate::held::{Held, HeldSide};
-use crate::reception::Reception;
+use crate::held::Held;
 use lc_disk::Area;
 use lc_record::View;
+use lc_segments::{HeldSide, NodeFault, Reception};
 use lc_token::Received;
 use std::alloc::Global;
 
@@ -125,13 +126,4 @@ fn finish_side<D: Area + Drop>(held: &mut HeldSide<D>, reception: Reception) -> 
     let first = side.finish(reception);
     let arrived = side.admit_waiting();
     Delivered { first, arrived }
-}
-
-impl Reception {
-    // Whether there was memory.
-    fn is_received(&self) -> bool
-        ensures { IsTrue result ↔ IsReceived self.now }
-    {
-        !matches!(self, Reception::NoMemory)
-    }
 }

@@ -1,25 +1,23 @@
 //! The calls of a running node.
-ghost use Rattle.std.specs.Prelude.{◌≡◌, ◌≢◌, ◌<◌, ℕ, IfErr, IfOk};
+ghost use Rattle.std.specs.Prelude.{◌≡◌, ◌≢◌, ◌↔◌, ◌+◌, ◌*◌, ◌<◌, ℕ, IfErr, IfOk, IsTrue, length};
 ghost use Rattle.lc_stage.specs.declared.stage_view.Reservation.{Reservation as Run};
-ghost use Rattle.lc_stage.specs.Staging.{newcomer, joining, Owns};
+ghost use Rattle.lc_stage.specs.Staging.{newcomer, joining, saw, Owns};
 ghost use Rattle.lc_stage.specs.Receipts.{IsReceiptOf};
 ghost use Rattle.lc_stage.specs.Seats.{commit_view, IsSeatOf, IsFlusherOf, IsIdle};
 ghost use Rattle.lc_lock.specs.Loans.{key_of};
-ghost use Rattle.lc_node.specs.Among.{IsAmong};
+ghost use Rattle.lc_log_side.specs.Among.{IsAmong};
 ghost use Rattle.lc_node.specs.Flushes.{HasFlushed, HasNotFlushed};
-ghost use Rattle.lc_node.specs.LogView.{IsSameLog};
-ghost use Rattle.lc_node.specs.Receipts.{HasReceipt};
-ghost use Rattle.lc_node.specs.declared.confirming.Confirmed.TheVariants.{Here, Earlier};
+ghost use Rattle.lc_log_side.specs.LogView.{IsSameLog};
+ghost use Rattle.lc_log_side.specs.Receipts.{HasReceipt};
+ghost use Rattle.lc_log_side.specs.declared.confirming.Confirmed.TheVariants.{Here, Earlier};
 
-use crate::{Confirmed, LogSide, Node, NodeFault};
+use crate::node::Node;
 use lc_disk::Area;
-use lc_lock::{Keyed, TicketLock};
+use lc_lock::TicketLock;
+use lc_log_side::{Confirmed, LogSide};
+use lc_segments::NodeFault;
 use lc_stage::{CommitSeat, Receipt, Stage};
 use std::sync::Wait;
-
-impl<D: Area + Drop> Keyed<Stage> for LogSide<D> {
-    ghost fits = { λ stage log. IsFlusherOf stage log.flusher × IsSeatOf stage log.probe };
-}
 
 impl<D: Area + Drop> Node<D> {
     /// The lock of the node's log.
@@ -27,6 +25,20 @@ impl<D: Area + Drop> Node<D> {
         ensures { (key_of result.now).table.shared.table_id ≡ self.now.stage.table.shared.table_id }
     {
         &self.log
+    }
+
+    /// Whether all that was reserved at the node is stable: the tail, in one load, is the end of the stable records. It
+    /// takes no memory. The log is that of the node.
+    pub fn is_flushed(&self, log: &mut LogSide<D>) -> bool
+        requires own { IsFlusherOf self.now.stage log.old.flusher × IsSeatOf self.now.stage log.old.probe }
+        ensures own { IsFlusherOf self.now.stage log.new.flusher × IsSeatOf self.now.stage log.new.probe }
+        ensures flushed { IsTrue result
+            ↔ ((commit_view log.new.probe).seen ≡ log.old.round * 65536 + length log.old.stable) }
+        ensures loads { commit_view log.new.probe
+            ≡ saw (commit_view log.new.probe).seen (commit_view log.old.probe) }
+        ensures same { log.new ≡ record log.old { probe = log.new.probe } }
+    {
+        log.is_flushed(&self.stage)
     }
 
     /// Makes the closed records stable, and answers how many became so. It waits for the lock of the log, and takes no

@@ -3,29 +3,33 @@ ghost use Rattle.std.specs.Prelude.{◌≡◌, ◌+◌, ◌≤◌, ℕ, [], Some
 ghost use Rattle.lc_lock.specs.declared.ticket_lock.TicketLock.{TicketLock as Keeps};
 ghost use Rattle.lc_lock.specs.Loans.{key_of};
 ghost use Rattle.lc_node.specs.Rooms.{AreOfSegments, FitsRoom, FitRooms, IsOfSegment, IsRoomOf};
-ghost use Rattle.lc_node.specs.SegView.{SegView};
+ghost use Rattle.lc_segments.specs.SegView.{SegView};
 ghost use Rattle.lc_node.specs.Shares.{AreShared};
 ghost use Rattle.lc_node.specs.declared.seg_room.SegRoom.{SegRoom as Room};
 
-use crate::boxed_side::BoxedSide;
 use crate::fresh::FreshSegment;
 use crate::share::Share;
 use crate::vacant::Vacant;
 use lc_disk::Area;
 use lc_lock::TicketLock;
 use lc_recover::Recovered;
+use lc_segments::BoxedSide;
 use std::alloc::{AllocError, Global};
 
 /// A segment of a recovered store, and the lock that waits for it. It is never dropped: it ends in `fill_all` or in
 /// `discard`.
-pub(crate) struct SegRoom<D: Area + Drop> {
+pub struct SegRoom<D: Area + Drop> {
     pub(crate) fresh: FreshSegment<D>,
-    pub(crate) lock: Vacant<BoxedSide<D>, u32>,
+    pub lock: Vacant<BoxedSide<D>, u32>,
 }
 
 impl<D: Area + Drop> SegRoom<D> {
     /// That of a segment, from 1.
-    fn new(alloc: Global, segment: u32, recovered: &Recovered<D>) -> Result<SegRoom<D>, AllocError>
+    pub fn new(
+        alloc: Global,
+        segment: u32,
+        recovered: &Recovered<D>,
+    ) -> Result<SegRoom<D>, AllocError>
         requires first { 1 ≤ segment }
         requires last { segment ≤ recovered.now.geometry.segments }
         ensures { IfOk result (IsRoomOf recovered.now segment) }
@@ -48,8 +52,8 @@ impl<D: Area + Drop> SegRoom<D> {
         }
     }
 
-    // The lock with the segment, on the area of its pages.
-    fn fill(self, segment: u32, area: D) -> TicketLock<BoxedSide<D>, u32>
+    /// The lock with the segment, on the area of its pages.
+    pub fn fill(self, segment: u32, area: D) -> TicketLock<BoxedSide<D>, u32>
         requires fits { FitsRoom D.Area segment self area }
         ensures { key_of result ≡ segment }
     {
@@ -66,8 +70,8 @@ impl<D: Area + Drop> SegRoom<D> {
         lock.fill(fresh.elsewhere())
     }
 
-    // The segment does not come up.
-    fn discard(self) {
+    /// The segment does not come up.
+    pub fn discard(self) {
         let SegRoom {
             fresh: _fresh,
             lock,

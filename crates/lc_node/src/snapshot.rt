@@ -1,40 +1,15 @@
 //! What a node has of a segment, copied.
-ghost use Rattle.std.specs.Prelude.{◌≡◌, ◌⊎◌, ◌↔◌, IfOk, IfErr, IsSome};
+ghost use Rattle.std.specs.Prelude.{◌≡◌, ◌⊎◌, ◌↔◌, IfOk, IfErr};
 ghost use Rattle.lc_node.specs.Held.{HasSegment};
-ghost use Rattle.lc_applied.specs.AppliedParts.{laid_parts};
-ghost use Rattle.lc_node.specs.SegView.{SegView};
+ghost use Rattle.lc_segments.specs.SegView.{SegView};
 ghost use Rattle.lc_node.specs.Snapshots.{IsCopyOf};
-ghost use Rattle.lc_node.specs.declared.node_fault.NodeFault.TheVariants.{NotHere, NoMemory};
+ghost use Rattle.lc_segments.specs.declared.node_fault.NodeFault.TheVariants.{NotHere, NoMemory};
 
-use crate::{Node, NodeFault, SegSide};
+use crate::node::Node;
 use lc_disk::Area;
-use std::alloc::{AllocError, Global};
+use lc_segments::{NodeFault, Snapshot};
+use std::alloc::Global;
 use std::sync::Wait;
-
-/// What a node had of a segment at one moment.
-#[derive(Drop)]
-pub struct Snapshot {
-    /// The number of the segment's last record that the bytes have.
-    pub number: u64,
-    /// The segment's bytes.
-    pub bytes: Vec<u8>,
-}
-
-impl<D: Area + Drop> SegSide<D> {
-    /// A copy of what is here of the segment.
-    pub fn snapshot(&self, alloc: Global) -> Result<Snapshot, AllocError>
-        requires here { IsSome self.now.image }
-        ensures number { IfOk result (λ copy. copy.number ≡ self.now.backlog.applied) }
-        ensures bytes { IfOk result (λ copy. copy.bytes.items ≡ laid_parts self.now.applied self.now.base) }
-    {
-        let Some(image) = &self.image else {
-            unreachable!()
-        };
-        let bytes = Vec::from_slice(alloc, image.bytes())?;
-        let number = self.hold_back.applied();
-        Ok(Snapshot { number, bytes })
-    }
-}
 
 impl<D: Area + Drop> Node<D> {
     /// A copy of what this node has of a segment, whether the segment's token is here or not. Where it is elsewhere,

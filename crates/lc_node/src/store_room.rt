@@ -1,5 +1,5 @@
 //! The memory of the nodes of a recovered store, taken before the store is taken apart.
-ghost use Rattle.std.specs.Prelude.{◌≡◌, ◌≤◌, ◌<◌, ℕ, [], Some, All, length, slice_get, vec_capacity, vec_len, IfOk};
+ghost use Rattle.std.specs.Prelude.{◌≡◌, ◌≤◌, ◌<◌, All, length, vec_len, IfOk};
 ghost use Rattle.lc_recover.specs.Reads.{HaveLengths};
 ghost use Rattle.lc_recover.specs.Recovered.{AreFinished};
 ghost use Rattle.lc_node.specs.Rooms.{AreRoomsFor, IsStoreRoom};
@@ -15,15 +15,15 @@ use std::alloc::{AllocError, Global};
 
 /// The memory of some nodes of a store, with the places for the areas of its segments. It is never dropped: it ends in
 /// `open`.
-pub(crate) struct StoreRoom<D: Area + Drop> {
-    pub(crate) nodes: Vec<NodeRoom<D>>,
+pub struct StoreRoom<D: Area + Drop> {
+    pub nodes: Vec<NodeRoom<D>>,
     pub(crate) places: Vec<Option<D>>,
     pub(crate) opened: Vec<OpenedNode<D>>,
 }
 
 impl<D: Area + Drop> StoreRoom<D> {
     /// That of so many nodes.
-    pub(crate) fn new(
+    pub fn new(
         alloc: Global,
         recovered: &Recovered<D>,
         nodes: u16,

@@ -1,30 +1,12 @@
 //! What a running node tells of its store, of its log and of its tokens.
-ghost use Rattle.std.specs.Prelude.{◌≡◌, ◌↔◌, false, length, IsSome, IsTrue};
+ghost use Rattle.std.specs.Prelude.{◌≡◌, false};
 ghost use Rattle.lc_node.specs.Telling.{TakesWords, HasTokenOf};
 ghost use Rattle.lc_node.specs.Held.{HasSegment};
 
-use crate::{LogSide, Node, SegSide};
+use crate::node::Node;
 use lc_disk::Area;
 use lc_record::Geometry;
 use std::sync::Wait;
-
-impl<D: Area + Drop> LogSide<D> {
-    // How many words its stable records take.
-    fn stable_words(&self) -> usize
-        ensures { result ≡ length self.now.stable }
-    {
-        self.stable.len()
-    }
-}
-
-impl<D: Area> SegSide<D> {
-    // Whether the token stands here.
-    fn has_token(&self) -> bool
-        ensures { IsTrue result ↔ IsSome self.now.standing.token }
-    {
-        !self.token.is_empty()
-    }
-}
 
 impl<D: Area + Drop> Node<D> {
     /// The numbers of its store: of one node where it was opened alone.

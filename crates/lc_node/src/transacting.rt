@@ -3,19 +3,22 @@ ghost use Rattle.std.specs.Prelude.{◌≡◌, ◌⊎◌, ◌<◌, ℕ, List, []
 ghost use Rattle.lc_stage.specs.declared.receipt.Receipt.{Receipt as Given};
 ghost use Rattle.lc_stage.specs.declared.stage_view.StageView.{StageView};
 ghost use Rattle.lc_stage.specs.Seats.{commit_view, IsSeatOf, IsIdle};
-ghost use Rattle.lc_node.specs.Receipts.{HasReceipt, IsOfDevice, Learns, Receives};
+ghost use Rattle.lc_log_side.specs.Receipts.{HasReceipt, IsOfDevice, Learns, Receives};
 ghost use Rattle.lc_node.specs.Stages.{Sees};
 ghost use Rattle.lc_tx.specs.Tx.{IsSetOf};
 ghost use Rattle.lc_node.specs.Commits.{AreHere, segments_in, ClosesWork, IsUnbegunAmong, IsUncommitted};
-ghost use Rattle.lc_node.specs.Ran.{Bytes, Ran};
+ghost use Rattle.lc_segments.specs.Ran.{Bytes, Ran};
 ghost use Rattle.lc_node.specs.Halting.{IsHalted};
 ghost use Rattle.lc_node.specs.Held.{IsFirstOutside, IsHeldOf};
-ghost use Rattle.lc_node.specs.declared.held.HeldSide.{HeldSide as Side};
-ghost use Rattle.lc_node.specs.declared.node_fault.NodeFault.TheVariants.{NotHere, NoMemory};
+ghost use Rattle.lc_segments.specs.declared.held.HeldSide.{HeldSide as Side};
+ghost use Rattle.lc_segments.specs.declared.node_fault.NodeFault.TheVariants.{NotHere, NoMemory};
 ghost use Rattle.lc_node.specs.declared.commit_kind.Commit.TheVariants.{Empty, Lazy, Flushed};
 
-use crate::{Commit, Gate, Mode, Node, NodeFault, Work};
+use crate::commit_kind::{Commit, Mode};
+use crate::gate::Gate;
+use crate::node::Node;
 use lc_disk::Area;
+use lc_segments::{NodeFault, Work};
 use lc_stage::CommitSeat;
 use std::alloc::Global;
 use std::sync::Wait;

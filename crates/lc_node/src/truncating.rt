@@ -1,25 +1,27 @@
 //! The truncation of a node's log.
-ghost use Rattle.std.specs.Prelude.{◌≡◌, ◌⊎◌, ◌≤◌, [], All, IfErr, IfOk, OnOk};
+ghost use Rattle.std.specs.Prelude.{◌≡◌, ◌⊎◌, [], All, IfErr, IfOk, OnOk};
 ghost use Rattle.std.specs.VecDeque.{deque_capacity};
 ghost use Rattle.lc_stage.specs.Seats.{IsFlusherOf, IsSeatOf};
-ghost use Rattle.lc_node.specs.Each.{Each};
-ghost use Rattle.lc_node.specs.Ended.{HasRoom};
+ghost use Rattle.lc_segments.specs.Each.{Each};
 ghost use Rattle.lc_node.specs.Held.{IsHeldOf, segments_of};
-ghost use Rattle.lc_node.specs.Halting.{IsUntruncatable};
-ghost use Rattle.lc_node.specs.LogView.{LogView};
+ghost use Rattle.lc_log_side.specs.Halting.{IsUntruncatable};
+ghost use Rattle.lc_log_side.specs.LogView.{LogView};
 ghost use Rattle.lc_node.specs.Logs.{IsLogOf};
-ghost use Rattle.lc_node.specs.Truncates.{HasNotTruncated, HasPagesIn, HasTruncated, IsOfTruncation, IsSameHeld};
-ghost use Rattle.lc_node.specs.Truncates.{IsUntruncated, IsUntruncatedHeld, IsUntruncatedInRoom, MayTruncate};
-ghost use Rattle.lc_node.specs.Truncates.{Truncates, TruncatesAlone, TruncatesHeld, TruncatesInRoom};
-ghost use Rattle.lc_node.specs.declared.node_fault.NodeFault.TheVariants.{NoMemory};
+ghost use Rattle.lc_node.specs.Truncates.{HasNotTruncated, HasTruncated, IsOfTruncation};
+ghost use Rattle.lc_log_side.specs.Truncates.{HasPagesIn, IsSameHeld};
+ghost use Rattle.lc_node.specs.Truncates.{IsUntruncatedHeld, MayTruncate};
+ghost use Rattle.lc_log_side.specs.Truncates.{IsUntruncatedInRoom};
+ghost use Rattle.lc_node.specs.Truncates.{TruncatesAlone, TruncatesHeld};
+ghost use Rattle.lc_segments.specs.declared.node_fault.NodeFault.TheVariants.{NoMemory};
 
-use crate::cleaning::{most_pages, write_all};
-use crate::held::{Held, HeldSide};
-use crate::{LogSide, Node, NodeFault};
+use crate::cleaning::most_pages;
+use crate::held::Held;
+use crate::node::Node;
 use lc_disk::Area;
+use lc_log_side::LogSide;
 use lc_page::Writing;
 use lc_record::MAX_SEGMENT;
-use lc_stage::Stage;
+use lc_segments::{HeldSide, NodeFault};
 use std::alloc::Global;
 use std::collections::VecDeque;
 use std::sync::Wait;
@@ -28,60 +30,6 @@ use std::sync::Wait;
 const SEGMENTS: [u32; MAX_SEGMENT as usize] = [
     1, 2, 3, 4, 5, 6, 7, 8, 9, 10, 11, 12, 13, 14, 15, 16,
 ];
-
-impl<D: Area + Drop> LogSide<D> {
-    // Where the log may be truncated, makes room for the words of its round, flushes it, writes the dirty pages of
-    // these segments, and empties it.
-    fn truncate(
-        &mut self,
-        stage: &Stage,
-        sides: &mut Vec<HeldSide<D>>,
-        writes: &mut VecDeque<Writing>,
-    ) -> Result<u64, NodeFault>
-        requires own { IsFlusherOf stage.now self.old.flusher × IsSeatOf stage.now self.old.probe }
-        requires none { writes.old.items ≡ [] }
-        requires room { All (HasPagesIn (deque_capacity writes.old)) sides.old.items }
-        ensures own { IsFlusherOf stage.now self.new.flusher × IsSeatOf stage.now self.new.probe }
-        ensures same { Each IsSameHeld sides.old.items sides.new.items }
-        ensures truncated { IfOk result (λ round.
-            TruncatesInRoom D.Area stage.now.room self.old sides.old.items round self.new sides.new.items) }
-        ensures refused { IfErr result (λ fault.
-            IsUntruncatedInRoom D.Area stage.now.room self.old sides.old.items fault self.new sides.new.items) }
-    {
-        self.may_truncate()?;
-        let Ok(()) = self.make_room(stage) else {
-            return Err(NodeFault::NoMemory);
-        };
-        self.empty(stage, sides, writes)
-    }
-
-    // The same where it may be, and there is that room. Where a page could not be written, the log serves no more.
-    fn empty(
-        &mut self,
-        stage: &Stage,
-        sides: &mut Vec<HeldSide<D>>,
-        writes: &mut VecDeque<Writing>,
-    ) -> Result<u64, NodeFault>
-        requires own { IsFlusherOf stage.now self.old.flusher × IsSeatOf stage.now self.old.probe }
-        requires none { writes.old.items ≡ [] }
-        requires room { All (HasPagesIn (deque_capacity writes.old)) sides.old.items }
-        requires ended { HasRoom self.old }
-        ensures own { IsFlusherOf stage.now self.new.flusher × IsSeatOf stage.now self.new.probe }
-        ensures same { Each IsSameHeld sides.old.items sides.new.items }
-        ensures truncated { IfOk result (λ round.
-            Truncates D.Area stage.now.room self.old sides.old.items round self.new sides.new.items) }
-        ensures refused { IfErr result (λ fault.
-            IsUntruncated D.Area stage.now.room self.old sides.old.items fault self.new sides.new.items) }
-    {
-        self.flush(stage)?;
-        if let Err(fault) = write_all(sides, writes) {
-            self.halt();
-            return Err(fault);
-        }
-        self.see_all(sides.as_slice());
-        self.reset(stage)
-    }
-}
 
 impl<D: Area + Drop> Node<D> {
     /// Empties the log: it waits for the locks of all segments, ascending, and then for the log's, flushes, writes the

@@ -3,15 +3,17 @@ ghost use Rattle.std.specs.Prelude.{◌≡◌, ◌↔◌, ◌<◌, ℕ, All, Err
 ghost use Rattle.lc_stage.specs.Seats.{commit_view, IsFlusherOf, IsIdle, IsSeatOf};
 ghost use Rattle.lc_tx.specs.Tx.{IsSetOf};
 ghost use Rattle.lc_node.specs.Held.{IsFirstOutside, IsHeldOf, IsUnheld, segments_of};
-ghost use Rattle.lc_node.specs.LogView.{IsSameLog};
-ghost use Rattle.lc_node.specs.Receipts.{Learns, Receives};
-ghost use Rattle.lc_node.specs.Settling.{published_end, Looks};
-ghost use Rattle.lc_node.specs.declared.node_fault.NodeFault.TheVariants.{NotHere, NoMemory};
+ghost use Rattle.lc_log_side.specs.LogView.{IsSameLog};
+ghost use Rattle.lc_log_side.specs.Receipts.{Learns, Receives};
+ghost use Rattle.lc_log_side.specs.Settling.{published_end, Looks};
+ghost use Rattle.lc_segments.specs.declared.node_fault.NodeFault.TheVariants.{NotHere, NoMemory};
 
-use crate::held::{Held, HeldSide};
+use crate::held::Held;
 use crate::holding::is_asked;
-use crate::{LogSide, Node, NodeFault};
+use crate::node::Node;
 use lc_disk::Area;
+use lc_log_side::LogSide;
+use lc_segments::{HeldSide, NodeFault};
 use lc_stage::{CommitSeat, Receipt};
 use std::alloc::Global;
 

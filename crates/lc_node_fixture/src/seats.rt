@@ -1,7 +1,7 @@
 //! What a caller does with its seat.
 ghost use Rattle.std.specs.Prelude.{◌≡◌, ◌<◌};
 ghost use Rattle.lc_stage.specs.Seats.{commit_view, IsSeatOf, IsIdle};
-ghost use Rattle.lc_node.specs.Receipts.{HasReceipt};
+ghost use Rattle.lc_log_side.specs.Receipts.{HasReceipt};
 
 use lc_disk::Area;
 use lc_node::{Commit, Confirmed, Gate, Get, Mode, Node, NodeFault, Put};

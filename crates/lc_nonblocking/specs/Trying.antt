@@ -1,6 +1,6 @@
 -- What is said of a call that is refused where a lock is not free.
 use Rattle.std.specs.Prelude.{Result, Ok, Err}
-use Rattle.lc_node.specs.declared.node_fault.NodeFault.{NodeFault}
+use Rattle.lc_segments.specs.declared.node_fault.NodeFault.{NodeFault}
 use Rattle.lc_nonblocking.specs.declared.try_fault.TryFault.{TryFault}
 use Rattle.lc_nonblocking.specs.declared.try_fault.TryFault.TheVariants.{Busy, Refused}
 

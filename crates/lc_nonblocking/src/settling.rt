@@ -1,7 +1,7 @@
 //! Whether the last record of a seat is stable.
 ghost use Rattle.std.specs.Prelude.{◌≡◌, IfErr, IfOk, MatchOption};
 ghost use Rattle.lc_stage.specs.Seats.{commit_view, IsIdle, IsSeatOf};
-ghost use Rattle.lc_node.specs.Receipts.{Learns, Receives};
+ghost use Rattle.lc_log_side.specs.Receipts.{Learns, Receives};
 ghost use Rattle.lc_node.specs.Settling.{LooksIn};
 ghost use Rattle.lc_nonblocking.specs.declared.try_fault.TryFault.TheVariants.{Busy};
 

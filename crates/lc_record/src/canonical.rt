@@ -32,13 +32,9 @@ fn ascend(locks: &[Lock]) -> bool
 fn is_range(range: &RangeData) -> bool
     ensures { IsTrue result ↔ IsRange range.now }
 {
-    lie_within(range.offset, range.bytes.as_slice())
-}
-
-fn lie_within(offset: u32, bytes: &[u8]) -> bool
-    ensures { IsTrue result ↔ ((1 ≤ length bytes.now) × (offset + length bytes.now ≤ 262144) × AreBytes bytes.now) }
-{
-    let end = offset as u64 + bytes.len() as u64;
+    let bytes = range.bytes.as_slice();
+    are_bytes(bytes);
+    let end = range.offset as u64 + bytes.len() as u64;
     !bytes.is_empty() && end <= MAX_OFFSET
 }
 

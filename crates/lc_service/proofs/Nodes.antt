@@ -1,10 +1,10 @@
 -- The node of a number is one.
 use Rattle.std.proofs.Common.{◌≡◌, ◌∙◌, ℕ, Some, sym, subst}
 use Rattle.std.proofs.lemmas.Option.{same_Some}
-use Rattle.lc_node.specs.Calls.{HasSegmentAt}
-use Rattle.lc_node.specs.Cluster.{node_at}
+use Rattle.lc_cluster.specs.Calls.{HasSegmentAt}
+use Rattle.lc_cluster.specs.Cluster.{node_at}
 use Rattle.lc_node.specs.Held.{HasSegment}
-use Rattle.lc_node.specs.declared.cluster.Cluster.{Cluster}
+use Rattle.lc_cluster.specs.declared.cluster.Cluster.{Cluster}
 use Rattle.lc_node.specs.declared.node.Node.{Node}
 
 -- where the node of a number has a segment, the node that was asked for has it

@@ -1,13 +1,13 @@
 -- Where a token was, and what peers that were asked for it did.
 use Rattle.std.specs.Prelude.{◌≡◌, ◌≢◌, ◌⊎◌, ℕ, Bool, Some, true, false, Result, Err}
 use Rattle.lc_disk.specs.declared.area.Area.{Ghosts}
-use Rattle.lc_node.specs.Calls.{HandsOverAt, HasSegmentAt}
-use Rattle.lc_node.specs.Cluster.{HasNode, node_at}
+use Rattle.lc_cluster.specs.Calls.{HandsOverAt, HasSegmentAt}
+use Rattle.lc_cluster.specs.Cluster.{HasNode, node_at}
 use Rattle.lc_node.specs.Flushes.{HasNotFlushed}
 use Rattle.lc_node.specs.Telling.{HasTokenOf}
-use Rattle.lc_node.specs.declared.cluster.Cluster.{Cluster}
+use Rattle.lc_cluster.specs.declared.cluster.Cluster.{Cluster}
 use Rattle.lc_node.specs.declared.node.Node.{Node}
-use Rattle.lc_node.specs.declared.node_fault.NodeFault.{NodeFault}
+use Rattle.lc_segments.specs.declared.node_fault.NodeFault.{NodeFault}
 
 module _ {D : Type 0} where
   -- the token of the segment was looked for at the node of this number, and stood there exactly where the answer is yes

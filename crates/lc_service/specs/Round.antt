@@ -1,16 +1,16 @@
 -- What a service did in a round.
 use Rattle.std.specs.Prelude.{◌≡◌, ◌≢◌, ◌⊎◌, ℕ, ◌*◌, ◌<◌, ◌≤◌, Some, Result}
 use Rattle.lc_disk.specs.declared.area.Area.{Ghosts}
-use Rattle.lc_node.specs.Calls.{PumpsAt}
-use Rattle.lc_node.specs.Cluster.{HasNode, node_at}
+use Rattle.lc_cluster.specs.Calls.{PumpsAt}
+use Rattle.lc_cluster.specs.Cluster.{HasNode, node_at}
 use Rattle.lc_node.specs.Flushes.{HasFlushed, HasNotFlushed}
-use Rattle.lc_node.specs.Forgetting.{TrimsAt}
-use Rattle.lc_node.specs.Receipts.{IsOfDevice}
+use Rattle.lc_cluster.specs.Forgetting.{TrimsAt}
+use Rattle.lc_log_side.specs.Receipts.{IsOfDevice}
 use Rattle.lc_node.specs.Telling.{TakesWords}
 use Rattle.lc_node.specs.Truncates.{HasNotTruncated, HasTruncated}
-use Rattle.lc_node.specs.declared.cluster.Cluster.{Cluster}
+use Rattle.lc_cluster.specs.declared.cluster.Cluster.{Cluster}
 use Rattle.lc_node.specs.declared.node.Node.{Node}
-use Rattle.lc_node.specs.declared.node_fault.NodeFault.{NodeFault}
+use Rattle.lc_segments.specs.declared.node_fault.NodeFault.{NodeFault}
 use Rattle.lc_node.specs.declared.pumped.Pumped.{Pumped}
 use Rattle.lc_service.specs.declared.upkeep.Upkeep.{Upkeep}
 

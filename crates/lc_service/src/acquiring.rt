@@ -1,14 +1,15 @@
 //! A node gets the token of a segment.
 ghost use Rattle.std.specs.Prelude.{◌≡◌, ◌≢◌, ◌⊎◌, ◌<◌, ℕ, Err, IfErr, IfOk, OnOk};
-ghost use Rattle.lc_node.specs.Calls.{HasSegmentAt};
-ghost use Rattle.lc_node.specs.Cluster.{HasNode};
-ghost use Rattle.lc_node.specs.Receipts.{IsOfDevice};
-ghost use Rattle.lc_node.specs.declared.node_fault.NodeFault.TheVariants.{NotHere};
+ghost use Rattle.lc_cluster.specs.Calls.{HasSegmentAt};
+ghost use Rattle.lc_cluster.specs.Cluster.{HasNode};
+ghost use Rattle.lc_log_side.specs.Receipts.{IsOfDevice};
+ghost use Rattle.lc_segments.specs.declared.node_fault.NodeFault.TheVariants.{NotHere};
 ghost use Rattle.lc_service.specs.Acquiring.{FailsAtPeer, HadToken, LackedToken, WasAsked, WasLookedFor, WereAsked};
 
 use crate::member_round::pump_all;
+use lc_cluster::Cluster;
 use lc_disk::Area;
-use lc_node::{Cluster, NodeFault};
+use lc_node::NodeFault;
 use std::sync::Wait;
 use std::thread;
 

@@ -1,13 +1,14 @@
 //! A thread keeps a running node in order.
 ghost use Rattle.std.specs.Prelude.{IfErr, OnOk};
-ghost use Rattle.lc_node.specs.Cluster.{HasNode};
+ghost use Rattle.lc_cluster.specs.Cluster.{HasNode};
 ghost use Rattle.lc_service.specs.Round.{IsUnkept, IsUnkeptAt, WasKept, WasKeptAt};
 
 use crate::member_round::ClusterNode;
 use crate::round::Round;
 use crate::{ShutdownSignal, Upkeep};
+use lc_cluster::Cluster;
 use lc_disk::Area;
-use lc_node::{Cluster, Node, NodeFault};
+use lc_node::{Node, NodeFault};
 use std::rt::Clock;
 use std::sync::Wait;
 

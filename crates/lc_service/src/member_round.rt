@@ -1,15 +1,16 @@
 //! What a service does at a node of a cluster.
 ghost use Rattle.std.specs.Prelude.{◌≢◌, Result};
-ghost use Rattle.lc_node.specs.Calls.{PumpsAt};
-ghost use Rattle.lc_node.specs.Cluster.{HasNode};
-ghost use Rattle.lc_node.specs.declared.node_fault.NodeFault.{NodeFault as Fault};
+ghost use Rattle.lc_cluster.specs.Calls.{PumpsAt};
+ghost use Rattle.lc_cluster.specs.Cluster.{HasNode};
+ghost use Rattle.lc_segments.specs.declared.node_fault.NodeFault.{NodeFault as Fault};
 ghost use Rattle.lc_node.specs.declared.pumped.Pumped.{Pumped as Answer};
 ghost use Rattle.lc_service.specs.Round.{IsUnkeptAt, WasKeptAt};
 
 use crate::Upkeep;
 use crate::round::Round;
+use lc_cluster::Cluster;
 use lc_disk::Area;
-use lc_node::{Cluster, NodeFault, Pumped};
+use lc_node::{NodeFault, Pumped};
 use std::sync::Wait;
 
 // So many messages of a peer are gone on with in a round: as many as a line holds.

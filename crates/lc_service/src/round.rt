@@ -7,7 +7,7 @@ use std::sync::Wait;
 
 /// What is kept in order, a round at a time.
 pub(crate) trait Round {
-    ghost use Rattle.lc_node.specs.declared.node_fault.NodeFault.{NodeFault};
+    ghost use Rattle.lc_segments.specs.declared.node_fault.NodeFault.{NodeFault};
     ghost use Rattle.lc_service.specs.declared.upkeep.Upkeep.{Upkeep};
 
     /// What one round did.

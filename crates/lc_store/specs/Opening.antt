@@ -8,14 +8,14 @@ use Rattle.lc_recover.specs.declared.fault.RecoverFault.{RecoverFault}
 use Rattle.lc_core.specs.ComingUp.{ComesUpBy}
 use Rattle.lc_core.specs.Lives.{IsNewborn}
 use Rattle.lc_recover.specs.Fault.{refusal_to}
-use Rattle.lc_core.specs.declared.call_fault.CallFault.{CallFault}
-use Rattle.lc_core.specs.declared.call_fault.CallFault.TheVariants.{NoMemory, Refused}
+use Rattle.lc_events.specs.declared.call_fault.CallFault.{CallFault}
+use Rattle.lc_events.specs.declared.call_fault.CallFault.TheVariants.{NoMemory, Refused}
 use Rattle.lc_core.specs.declared.world_phase.WorldPhase.TheVariants.{Down}
 use Rattle.lc_core.specs.declared.world.World.{World}
-use Rattle.lc_files.specs.declared.sizing.SizeFault.{SizeFault}
-use Rattle.lc_files.specs.declared.sizing.SizeFault.TheVariants.{Misfit as Misfits, Folder as SizeFolder}
-use Rattle.lc_files.specs.declared.sizing.Unopened.{Unopened}
-use Rattle.lc_files.specs.declared.sizing.Unopened.TheVariants.{Folder as NoFolder, OtherSize}
+use Rattle.lc_folder.specs.declared.sizing.SizeFault.{SizeFault}
+use Rattle.lc_folder.specs.declared.sizing.SizeFault.TheVariants.{Misfit as Misfits, Folder as SizeFolder}
+use Rattle.lc_folder.specs.declared.sizing.Unopened.{Unopened}
+use Rattle.lc_folder.specs.declared.sizing.Unopened.TheVariants.{Folder as NoFolder, OtherSize}
 use Rattle.lc_look.specs.Recovers.{Explains}
 use Rattle.lc_look.specs.Refused.{IsFirstWrong}
 use Rattle.lc_store.specs.declared.store_open_fault.StoreOpenFault.{StoreOpenFault}

@@ -1,8 +1,8 @@
 //! The size that a folder tells.
 ghost use Rattle.std.specs.Prelude.{◌≡◌, ◌↔◌, true, IfOk};
 ghost use Rattle.lc_record.specs.declared.geometry.Geometry.{Geometry as Sizes};
-ghost use Rattle.lc_files.specs.SizeText.{IsSameSize};
-ghost use Rattle.lc_files.specs.Sizes.{IsSizeOf};
+ghost use Rattle.lc_folder.specs.SizeText.{IsSameSize};
+ghost use Rattle.lc_folder.specs.Sizes.{IsSizeOf};
 ghost use Rattle.lc_store.specs.Opening.{IsNoThreadCount};
 
 use crate::StoreOpenFault;

@@ -3,10 +3,11 @@ use Rattle.std.proofs.Common.{◌≡◌, ℕ, zero, suc, List, [], ◌∷◌, Al
 use Rattle.std.specs.Global.{Vec}
 use Rattle.std.specs.Prelude.{slice_get}
 use Rattle.lc_stage.specs.declared.seats.CommitSeat.{CommitSeat}
-use Rattle.lc_core.specs.Places.{same_some}
-use Rattle.lc_node.specs.Cluster.{IsSeatAt, node_at}
-use Rattle.lc_node.specs.LeftBy.{AreOwnSeats, IsIdleSeatOf}
-use Rattle.lc_node.specs.declared.cluster.Cluster.{Cluster}
+use Rattle.lc_settled.specs.Places.{same_some}
+use Rattle.lc_cluster.specs.Cluster.{IsSeatAt, node_at}
+use Rattle.lc_cluster.specs.LeftBy.{AreOwnSeats}
+use Rattle.lc_log_side.specs.LeftBy.{IsIdleSeatOf}
+use Rattle.lc_cluster.specs.declared.cluster.Cluster.{Cluster}
 use Rattle.lc_node.specs.declared.node.Node.{Node}
 use Rattle.lc_node.proofs.EachPlace.{each_none}
 

@@ -1,12 +1,13 @@
 //! Two nodes that keep one another current.
 ghost use Rattle.std.specs.Prelude.{◌≡◌, ◌^◌, ◌<◌, IfOk, length};
-ghost use Rattle.lc_node.specs.Cluster.{IsSeatAt};
+ghost use Rattle.lc_cluster.specs.Cluster.{IsSeatAt};
 ghost use Rattle.lc_record.specs.Geometry.{HasNumbers};
 
 use crate::both::Both;
 use crate::expect::equal;
+use lc_cluster::{Cluster, Spread};
 use lc_disk::{Area, MemArea};
-use lc_node::{Cluster, Commit, Get, Mode, NodeFault, Pumped, Put, Spread};
+use lc_node::{Commit, Get, Mode, NodeFault, Pumped, Put};
 use lc_node_fixture::{LOG_BYTES, Open, SEGMENT_BYTES, TRIES, WORDS, get, put, recovered};
 use lc_record::Geometry;
 use lc_stage::CommitSeat;

@@ -5,15 +5,17 @@ ghost use Rattle.lc_disk.specs.When.{IsCountable};
 ghost use Rattle.lc_record.specs.Geometry.{HasNumbers};
 ghost use Rattle.lc_stage.specs.Seats.{commit_view, IsIdle, IsSeatOf};
 ghost use Rattle.lc_stage.specs.declared.seats.CommitSeat.{CommitSeat as Seat};
-ghost use Rattle.lc_node.specs.Cluster.{IsSeatAt};
-ghost use Rattle.lc_node.specs.LeftBy.{AreOwnSeats, IsIdleSeatOf};
+ghost use Rattle.lc_cluster.specs.Cluster.{IsSeatAt};
+ghost use Rattle.lc_cluster.specs.LeftBy.{AreOwnSeats};
+ghost use Rattle.lc_log_side.specs.LeftBy.{IsIdleSeatOf};
 
 use crate::clusters;
 use crate::expect::holds;
 use lc_adopt::into_world;
+use lc_cluster::Cluster;
 use lc_core::{ClusterPart, Event, Reply, World};
 use lc_disk::{Area, Choice, Fuse, MemArea, When};
-use lc_node::{Cluster, Commit, Confirmed, Mode, Node, NodeFault, Put};
+use lc_node::{Commit, Confirmed, Mode, Node, NodeFault, Put};
 use lc_node_fixture::{
     Open, SEGMENT_BYTES, SharedArea, TRIES, area_of, put, put_and_confirm, recovered, zeros,
 };

@@ -2,14 +2,15 @@
 ghost use Rattle.std.specs.Prelude.{◌≡◌, ◌<◌, IfOk, length};
 ghost use Rattle.lc_rest.specs.Parts.{AreKept};
 ghost use Rattle.lc_disk.specs.contracts.mem_area.MemAreaArea.TheImpl.{ghosts};
-ghost use Rattle.lc_node.specs.Cluster.{IsSeatAt};
+ghost use Rattle.lc_cluster.specs.Cluster.{IsSeatAt};
 
 use crate::act::Act;
 use crate::clusters::opened;
 use crate::coming_up::{behind, in_memory, no_seats};
+use lc_cluster::Cluster;
 use lc_core::Parts;
 use lc_disk::{Area, MemArea};
-use lc_node::{Cluster, Mode, Put};
+use lc_node::{Mode, Put};
 use lc_node_fixture::put;
 use lc_record::Geometry;
 use lc_stage::CommitSeat;

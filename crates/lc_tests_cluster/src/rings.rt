@@ -3,10 +3,11 @@ ghost use Rattle.std.specs.Prelude.{◌≡◌, ◌≢◌, ◌<◌, ◌≤◌, �
 ghost use Rattle.lc_record.specs.Geometry.{HasNumbers};
 ghost use Rattle.lc_stage.specs.Seats.{commit_view, IsSeatOf, IsIdle};
 ghost use Rattle.lc_stage.specs.declared.seats.CommitSeat.{CommitSeat as Seat};
-ghost use Rattle.lc_node.specs.Cluster.{IsSeatAt};
+ghost use Rattle.lc_cluster.specs.Cluster.{IsSeatAt};
 
+use lc_cluster::{Cluster, Spread};
 use lc_disk::Area;
-use lc_node::{Cluster, Commit, Mode, Node, Pumped, Put, Snapshot, Spread};
+use lc_node::{Commit, Mode, Node, Pumped, Put, Snapshot};
 use lc_node_fixture::{Open, SEGMENT_BYTES, SharedArea, TRIES, WORDS, area_of, recovered, zeros};
 use lc_record::Geometry;
 use lc_recover::Recovered;

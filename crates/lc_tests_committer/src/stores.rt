@@ -3,10 +3,11 @@ ghost use Rattle.std.specs.Prelude.{◌≡◌, ℕ, true, IfOk, Some, length, sl
 ghost use Rattle.lc_record.specs.Geometry.{HasNumbers};
 ghost use Rattle.lc_stage.specs.Seats.{commit_view, IsSeatOf, IsIdle};
 ghost use Rattle.lc_stage.specs.declared.seats.CommitSeat.{CommitSeat as Seat};
-ghost use Rattle.lc_node.specs.Cluster.{IsSeatAt};
+ghost use Rattle.lc_cluster.specs.Cluster.{IsSeatAt};
 
+use lc_cluster::Cluster;
 use lc_disk::MemArea;
-use lc_node::{Cluster, Node, Put};
+use lc_node::{Node, Put};
 use lc_record::Geometry;
 use lc_recover::zero_areas;
 use lc_stage::CommitSeat;

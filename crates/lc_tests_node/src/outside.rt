@@ -1,8 +1,9 @@
 //! What can be done by who is not the node: with what a lock lends, and with lines of one's own.
 use crate::expect::{equal, holds};
 use crate::stores::{in_memory, opened, two_segments};
+use lc_cluster::{PeerEnd, PeerInbox, RecvEnds, SendEnds, Spread};
 use lc_line::open_line;
-use lc_node::{Confirmed, Message, Mode, PeerEnd, PeerInbox, Put, RecvEnds, SendEnds, Spread};
+use lc_node::{Confirmed, Message, Mode, Put};
 use lc_node_fixture::{put, put_and_confirm};
 use std::test::*;
 

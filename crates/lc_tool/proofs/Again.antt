@@ -17,7 +17,7 @@ use Rattle.lc_model.specs.declared.reply.Reply.TheVariants.{Ok as Accepted, Rese
 use Rattle.lc_model.proofs.Holders.{is_by-both}
 use Rattle.lc_model.proofs.Lists.{found-passes}
 use Rattle.lc_model.proofs.Seats.{unclosed-appended}
-use Rattle.lc_core.specs.Numbers.{Numbers}
+use Rattle.lc_settled.specs.Numbers.{Numbers}
 use Rattle.lc_tool.specs.Answers.{Answers, GoesOnWith, IsStepped}
 
 -- one more

@@ -10,7 +10,7 @@ use Rattle.lc_model.specs.declared.refusal.Refusal.TheVariants.{BadGeometry as W
 use Rattle.lc_model.specs.declared.reply.Reply.{Reply}
 use Rattle.lc_model.specs.declared.reply.Reply.TheVariants.{Recovered, Refused as IsRefusal, Stepped}
 use Rattle.lc_core.specs.Lives.{AnswersDown, FitsLife, IsBorn, Life, StillLives}
-use Rattle.lc_core.specs.Numbers.{Numbers}
+use Rattle.lc_settled.specs.Numbers.{Numbers}
 use Rattle.lc_core.specs.World.{FitsWorld}
 use Rattle.lc_core.specs.declared.world.World.{World}
 use Rattle.lc_look.specs.Printed.{NoMemory, Adds}

@@ -13,7 +13,7 @@ use Rattle.lc_model.specs.declared.reply.Reply.{Reply}
 use Rattle.lc_model.specs.declared.reply.Reply.TheVariants.{Refused}
 use Rattle.lc_core.specs.Geometries.{RefusesOutside, phase_geometry}
 use Rattle.lc_core.specs.Lives.{Anyhow, FitsLife, Life, Told}
-use Rattle.lc_core.specs.Numbers.{Numbers}
+use Rattle.lc_settled.specs.Numbers.{Numbers}
 use Rattle.lc_core.specs.Recovers.{RefusesAtOnce}
 use Rattle.lc_core.specs.Stepping.{works_up}
 use Rattle.lc_core.specs.World.{FollowsAnyhow}

@@ -14,7 +14,7 @@ use Rattle.lc_model.specs.declared.refusal.Refusal.TheVariants.{DeviceFault, Unc
 use Rattle.lc_model.specs.declared.reply.Reply.{Reply}
 use Rattle.lc_model.specs.declared.reply.Reply.TheVariants.{Acked, Nothing, Refused, Stepped}
 use Rattle.lc_model.proofs.Rows.{none_refused}
-use Rattle.lc_core.specs.Numbers.{Numbers}
+use Rattle.lc_settled.specs.Numbers.{Numbers}
 use Rattle.lc_core.specs.Truncating.{ending, stopping}
 use Rattle.lc_tool.specs.Answers.{Answers}
 use Rattle.lc_tool.specs.Truncation.{AsksFirst, Cleans, Repeats, Truncates}

@@ -7,15 +7,16 @@ use Rattle.lc_model.specs.declared.event.Event.TheVariants.{Close, Reserve}
 use Rattle.lc_model.specs.declared.refusal.Refusal.{Refusal}
 use Rattle.lc_model.specs.declared.reply.Reply.{Reply}
 use Rattle.lc_model.specs.declared.reply.Reply.TheVariants.{Ok as Accepted, Ended, Refused, Reserved}
-use Rattle.lc_core.specs.Answered.{ClosesBehind, ComesTo, Ends, WantsMemory, closed_at, done, place_taken}
-use Rattle.lc_core.specs.Numbers.{Numbers}
-use Rattle.lc_core.specs.Places.{same_some}
+use Rattle.lc_core.specs.Answered.{ClosesBehind, ComesTo, Ends, WantsMemory}
+use Rattle.lc_events.specs.Answered.{closed_at, done, place_taken}
+use Rattle.lc_settled.specs.Numbers.{Numbers}
+use Rattle.lc_settled.specs.Places.{same_some}
 use Rattle.lc_core.specs.Truncating.{StepsTo}
 use Rattle.lc_core.specs.World.{FitsWorld}
-use Rattle.lc_core.specs.declared.call_fault.CallFault.{CallFault}
-use Rattle.lc_core.specs.declared.call_fault.CallFault.TheVariants.{NoMemory, Refused as IsRefused}
-use Rattle.lc_core.specs.declared.placement.Placement.{Placement}
-use Rattle.lc_core.specs.declared.placement.Placement.TheVariants.{Record as HasRecord, Empty as IsEmpty}
+use Rattle.lc_events.specs.declared.call_fault.CallFault.{CallFault}
+use Rattle.lc_events.specs.declared.call_fault.CallFault.TheVariants.{NoMemory, Refused as IsRefused}
+use Rattle.lc_events.specs.declared.placement.Placement.{Placement}
+use Rattle.lc_events.specs.declared.placement.Placement.TheVariants.{Record as HasRecord, Empty as IsEmpty}
 use Rattle.lc_core.specs.declared.world.World.{World}
 use Rattle.lc_tool.specs.Fits.{FollowsEnd, IsUpBeside, RefusesDown}
 use Rattle.lc_tool.proofs.Beside.{not_down, refuses_down}

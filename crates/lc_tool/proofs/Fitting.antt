@@ -17,15 +17,15 @@ use Rattle.lc_core.specs.Recovers.{AnswersRecovery}
 use Rattle.lc_core.specs.declared.world_phase.WorldPhase.{WorldPhase}
 use Rattle.lc_model.specs.State.{Setting, State}
 use Rattle.lc_model.specs.Stored.{records_of}
-use Rattle.lc_core.specs.Log.{Stands, area_of}
+use Rattle.lc_journal.specs.Log.{Stands, area_of}
 use Rattle.lc_core.specs.LogWords.{AreLogged, ShowRecords, log_area}
-use Rattle.lc_core.specs.NodeState.{FitsNode}
-use Rattle.lc_core.specs.Numbers.{Numbers}
-use Rattle.lc_core.specs.Running.{FitsRunning}
+use Rattle.lc_events.specs.NodeState.{FitsNode}
+use Rattle.lc_settled.specs.Numbers.{Numbers}
+use Rattle.lc_events.specs.Running.{FitsRunning}
 use Rattle.lc_core.specs.World.{FitsDown, FitsPhase}
-use Rattle.lc_core.specs.declared.log.Log.{Log}
-use Rattle.lc_core.specs.declared.log.Log.TheVariants.{Idle, Written, Synced, Opened, Sealed, Closing, Emptied, Failed, Torn, Taken as NoLog}
-use Rattle.lc_core.specs.declared.node_state.NodeState.{NodeState}
+use Rattle.lc_journal.specs.declared.log.Log.{Log}
+use Rattle.lc_journal.specs.declared.log.Log.TheVariants.{Idle, Written, Synced, Opened, Sealed, Closing, Emptied, Failed, Torn, Taken as NoLog}
+use Rattle.lc_events.specs.declared.node_state.NodeState.{NodeState}
 use Rattle.lc_core.specs.declared.world_phase.WorldPhase.TheVariants.{Down, Up}
 use Rattle.lc_core.specs.declared.up.Up.{Up as Rising}
 

@@ -6,7 +6,7 @@ use Rattle.lc_model.specs.State.{Setting, State}
 use Rattle.lc_model.specs.declared.event.Event.TheVariants.{FlushStep}
 use Rattle.lc_model.specs.declared.reply.Reply.{Reply}
 use Rattle.lc_model.specs.declared.reply.Reply.TheVariants.{Stepped}
-use Rattle.lc_core.specs.Numbers.{Numbers}
+use Rattle.lc_settled.specs.Numbers.{Numbers}
 use Rattle.lc_core.specs.Truncating.{ending}
 use Rattle.lc_core.specs.Truncating as calls
 use Rattle.lc_core.specs.World.{FitsWorld}

@@ -4,7 +4,7 @@ use Rattle.std.specs.Prelude.{if◌then◌else◌}
 use Rattle.lc_record.specs.declared.geometry.Geometry.{Geometry}
 use Rattle.lc_model.specs.State.{Setting, State}
 use Rattle.lc_core.specs.Lives.{Life}
-use Rattle.lc_core.specs.Numbers.{Numbers}
+use Rattle.lc_settled.specs.Numbers.{Numbers}
 use Rattle.lc_text.specs.Text.{no_memory_text, too_long_text}
 use Rattle.lc_tool.specs.Outcome.{Breaks, Passes, fronted}
 use Rattle.lc_tool.specs.Script.{Follows, Front}

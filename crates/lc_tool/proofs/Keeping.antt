@@ -13,12 +13,12 @@ use Rattle.lc_model.specs.declared.reply.Reply.{Reply}
 use Rattle.lc_core.specs.Geometries.{RefusesOutside, phase_geometry}
 use Rattle.lc_core.specs.Lives.{StillLives}
 use Rattle.lc_core.specs.LogWords.{ReadsLog, ReadsNone, log_area}
-use Rattle.lc_core.specs.Places.{same_some}
+use Rattle.lc_settled.specs.Places.{same_some}
 use Rattle.lc_core.specs.Recovers.{RefusesAtOnce}
 use Rattle.lc_core.specs.declared.world_phase.WorldPhase.{WorldPhase}
 use Rattle.lc_core.specs.declared.world_phase.WorldPhase.TheVariants.{Down, Up, Taken}
-use Rattle.lc_core.specs.declared.show_fault.ShowFault.{ShowFault}
-use Rattle.lc_core.specs.declared.show_fault.ShowFault.TheVariants.{Unknown as IsUnknown, DeviceFault as HasFailed, NoMemory}
+use Rattle.lc_journal.specs.declared.show_fault.ShowFault.{ShowFault}
+use Rattle.lc_journal.specs.declared.show_fault.ShowFault.TheVariants.{Unknown as IsUnknown, DeviceFault as HasFailed, NoMemory}
 use Rattle.lc_text.specs.Text.{refusal_text}
 use Rattle.lc_tool.specs.Shown.{refusal_to}
 use Rattle.lc_tool.specs.Tells.{KeepsTo, TellsLog, TellsRefusal, TellsShown}

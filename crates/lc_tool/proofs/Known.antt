@@ -15,13 +15,15 @@ use Rattle.lc_model.specs.declared.refusal.Refusal.{Refusal}
 use Rattle.lc_model.specs.declared.refusal.Refusal.TheVariants.{Busy, Down as IsDown, EmptyRange, Halted, Held, NoRange, NotHere, NotLocked, OutOfSegment, OutOfTurn, ReadOnly, TooManyRanges, Uncommitted, Unknown}
 use Rattle.lc_model.specs.declared.reply.Reply.{Reply}
 use Rattle.lc_model.specs.declared.reply.Reply.TheVariants.{Recovered, Refused}
-use Rattle.lc_core.specs.Geometries.{is_delivery}
+use Rattle.lc_events.specs.Geometries.{is_delivery}
 use Rattle.lc_core.specs.Lives.{AnswersDown, AnswersOne, AnswersUp, IsBorn, Life}
-use Rattle.lc_core.specs.Numbers.{Numbers}
+use Rattle.lc_settled.specs.Numbers.{Numbers}
 use Rattle.lc_core.specs.Due.{is_due_then}
-use Rattle.lc_core.specs.Places.{same_some}
-use Rattle.lc_core.specs.Showing.{image_of, page_of}
-use Rattle.lc_core.specs.Truncating.{ending, refusal_in, stopping}
+use Rattle.lc_settled.specs.Places.{same_some}
+use Rattle.lc_core.specs.Showing.{image_of}
+use Rattle.lc_desk.specs.Showing.{page_of}
+use Rattle.lc_core.specs.Truncating.{ending, stopping}
+use Rattle.lc_events.specs.Truncating.{refusal_in}
 use Rattle.lc_text.specs.Text.{page_text, refusal_text}
 use Rattle.lc_text.specs.declared.command.Command.{Command}
 use Rattle.lc_text.specs.declared.command.Command.TheVariants.{Step as Asks, End, Flush, Truncate, Recover, Log, Inspect, Show}

@@ -17,13 +17,14 @@ use Rattle.lc_model.specs.Refusals.{is_node}
 use Rattle.lc_model.specs.State.{Setting, State}
 use Rattle.lc_model.specs.declared.refusal.Refusal.{Refusal}
 use Rattle.lc_model.specs.declared.refusal.Refusal.TheVariants.{DeviceFault, Unknown}
-use Rattle.lc_core.specs.LogWords.{AreWordsOf, ReadsLog, ReadsNone, ShowRecords, has_failed, log_area}
-use Rattle.lc_core.specs.Numbers.{Numbers}
+use Rattle.lc_core.specs.LogWords.{AreWordsOf, ReadsLog, ReadsNone, ShowRecords, log_area}
+use Rattle.lc_journal.specs.LogWords.{has_failed}
+use Rattle.lc_settled.specs.Numbers.{Numbers}
 use Rattle.lc_core.specs.World.{FitsPhase, FitsWorld}
 use Rattle.lc_core.specs.declared.world_phase.WorldPhase.{WorldPhase}
 use Rattle.lc_core.specs.declared.world_phase.WorldPhase.TheVariants.{Down, Up, Taken}
-use Rattle.lc_core.specs.declared.show_fault.ShowFault.{ShowFault}
-use Rattle.lc_core.specs.declared.show_fault.ShowFault.TheVariants.{Unknown as IsUnknown, DeviceFault as HasFailed, NoMemory}
+use Rattle.lc_journal.specs.declared.show_fault.ShowFault.{ShowFault}
+use Rattle.lc_journal.specs.declared.show_fault.ShowFault.TheVariants.{Unknown as IsUnknown, DeviceFault as HasFailed, NoMemory}
 use Rattle.lc_core.specs.declared.world.World.{World}
 use Rattle.lc_tool.specs.Fits.{AsksFor, Performs}
 use Rattle.lc_text.specs.Inspector.{Inspects}

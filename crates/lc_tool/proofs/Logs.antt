@@ -10,7 +10,7 @@ use Rattle.lc_model.specs.Refusals.{is_node}
 use Rattle.lc_model.specs.State.{Up as IsUp, Setting, State}
 use Rattle.lc_model.specs.Stored.{records_of}
 use Rattle.lc_core.specs.LogWords.{AreLogged, log_area, logged_records}
-use Rattle.lc_core.specs.Numbers.{Numbers, stable_records}
+use Rattle.lc_settled.specs.Numbers.{Numbers, stable_records}
 use Rattle.lc_core.specs.World.{FitsPhase}
 use Rattle.lc_core.specs.declared.world_phase.WorldPhase.{WorldPhase as ItsPhase}
 use Rattle.lc_core.specs.declared.world_phase.WorldPhase.TheVariants.{Down, Up, Taken}

@@ -14,7 +14,7 @@ use Rattle.lc_model.specs.declared.refusal.Refusal.TheVariants.{OutOfTurn}
 use Rattle.lc_model.specs.declared.reply.Reply.{Reply}
 use Rattle.lc_model.specs.declared.reply.Reply.TheVariants.{Stepped}
 use Rattle.lc_core.specs.Lives.{FitsLife, Life, StillLives, Told}
-use Rattle.lc_core.specs.Numbers.{Numbers}
+use Rattle.lc_settled.specs.Numbers.{Numbers}
 use Rattle.lc_core.specs.Recovers.{RecoversDown, RefusesAtOnce}
 use Rattle.lc_core.specs.World.{AsksIn, FitsWorld, FollowsAnyhow, FollowsWorld}
 use Rattle.lc_core.specs.declared.world_phase.WorldPhase.{WorldPhase}

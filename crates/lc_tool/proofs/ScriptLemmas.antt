@@ -9,7 +9,7 @@ use Rattle.lc_disk.specs.declared.area.Area.{Ghosts}
 use Rattle.lc_record.specs.declared.geometry.Geometry.{Geometry}
 use Rattle.lc_model.specs.State.{Setting, State}
 use Rattle.lc_core.specs.Lives.{Life}
-use Rattle.lc_core.specs.Numbers.{Numbers}
+use Rattle.lc_settled.specs.Numbers.{Numbers}
 use Rattle.lc_core.specs.declared.world.World.{World}
 use Rattle.lc_text.specs.Line.{asked, command_of, is_skipped, line_of, words}
 use Rattle.lc_text.specs.declared.command.Command.{Command}

@@ -7,11 +7,12 @@ use Rattle.lc_model.specs.Refusals.{is_node, is_page, is_segment, is_up, refuse_
 use Rattle.lc_model.specs.State.{Setting, State}
 use Rattle.lc_model.specs.declared.refusal.Refusal.{Refusal}
 use Rattle.lc_model.specs.declared.refusal.Refusal.TheVariants.{Down as IsDown, Unknown}
-use Rattle.lc_core.specs.Numbers.{Numbers}
+use Rattle.lc_settled.specs.Numbers.{Numbers}
 use Rattle.lc_core.specs.Lives.{FitsLife, Life, ShowsLife}
-use Rattle.lc_core.specs.Places.{same_some}
+use Rattle.lc_settled.specs.Places.{same_some}
 use Rattle.lc_core.specs.Observed.{has_page}
-use Rattle.lc_core.specs.Showing.{ShowsPage, image_of, page_of}
+use Rattle.lc_core.specs.Showing.{ShowsPage, image_of}
+use Rattle.lc_desk.specs.Showing.{page_of}
 use Rattle.lc_core.proofs.PageSeen.{page_refusal as refusal_in}
 use Rattle.lc_core.specs.World.{FitsPhase, FitsUp, FitsWorld}
 use Rattle.lc_core.specs.declared.world_phase.WorldPhase.{WorldPhase}

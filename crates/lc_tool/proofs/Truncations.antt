@@ -12,11 +12,12 @@ use Rattle.lc_model.specs.declared.reply.Reply.{Reply}
 use Rattle.lc_model.specs.declared.reply.Reply.TheVariants.{Refused}
 use Rattle.lc_core.specs.Due.{is_blocked_then, is_due_then}
 use Rattle.lc_core.specs.Lives.{FitsLife}
-use Rattle.lc_core.specs.Numbers.{Numbers}
+use Rattle.lc_settled.specs.Numbers.{Numbers}
 use Rattle.lc_core.specs.Truncating as core
-use Rattle.lc_core.specs.Truncating.{StepsTo, ending, refusal_in, sizes_of, stopping}
+use Rattle.lc_core.specs.Truncating.{StepsTo, ending, sizes_of, stopping}
+use Rattle.lc_events.specs.Truncating.{refusal_in}
 use Rattle.lc_core.specs.World.{FitsPhase, FitsWorld}
-use Rattle.lc_core.specs.declared.node_state.NodeState.{NodeState}
+use Rattle.lc_events.specs.declared.node_state.NodeState.{NodeState}
 use Rattle.lc_core.specs.declared.world_phase.WorldPhase.{WorldPhase}
 use Rattle.lc_core.specs.declared.world_phase.WorldPhase.TheVariants.{Down, Up, Taken}
 use Rattle.lc_core.specs.declared.world.World.{World}

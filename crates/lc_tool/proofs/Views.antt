@@ -6,11 +6,11 @@ use Rattle.lc_recover.specs.declared.fault.RecoverFault.{RecoverFault}
 use Rattle.lc_recover.specs.declared.fault.RecoverFault.TheVariants.{BadGeometry, DeviceFault, NoMemory}
 use Rattle.lc_look.specs.Printed.{Stops}
 use Rattle.lc_look.specs.Recovers.{stop_status, stop_text}
-use Rattle.lc_files.specs.Found.{misfit_text}
+use Rattle.lc_folder.specs.Found.{misfit_text}
 use Rattle.lc_tool.specs.Files.{NotOpened}
 use Rattle.lc_tool.specs.Found.{size_text}
 use Rattle.lc_tool.specs.StoreReport.{HasNoSize, ShowsView, TakesSize, TellsView, front_text}
-use Rattle.lc_files.specs.declared.misfit.Misfit.{Misfit}
+use Rattle.lc_folder.specs.declared.misfit.Misfit.{Misfit}
 use Rattle.lc_tool.specs.declared.store_report.StoreReport.{StoreReport}
 use Rattle.lc_tool.specs.declared.store_report.StoreReport.TheVariants.{Check, Dump, Draw}
 

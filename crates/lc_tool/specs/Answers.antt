@@ -6,9 +6,9 @@ use Rattle.lc_model.specs.declared.event.Event.{Event}
 use Rattle.lc_model.specs.declared.event.Event.TheVariants.{Close}
 use Rattle.lc_model.specs.declared.reply.Reply.{Reply}
 use Rattle.lc_model.specs.declared.reply.Reply.TheVariants.{Ok as Accepted, Reserved, Stepped}
-use Rattle.lc_core.specs.Numbers.{Numbers}
-use Rattle.lc_core.specs.Settled.{Settled}
-use Rattle.lc_core.specs.Turns.{Turns}
+use Rattle.lc_settled.specs.Numbers.{Numbers}
+use Rattle.lc_settled.specs.Settled.{Settled}
+use Rattle.lc_settled.specs.Turns.{Turns}
 
 -- a step of the machine under this reply, which is settled, and the numbers after it
 pub record Answers (m : Setting) (s : State) (x : Numbers) (event : Event) (reply : Reply) (after : State) (next : Numbers) : Type 0 where

@@ -4,7 +4,7 @@ use Rattle.std.specs.Io.KnownBytes.{Appends, Keeps}
 use Rattle.lc_record.specs.declared.geometry.Geometry.{Geometry}
 use Rattle.lc_model.specs.Recovered.{zero_content}
 use Rattle.lc_model.specs.State.{first_state}
-use Rattle.lc_core.specs.Numbers.{Numbers}
+use Rattle.lc_settled.specs.Numbers.{Numbers}
 use Rattle.lc_tool.specs.CheckedJson.{TellsCheck}
 use Rattle.lc_tool.specs.Copied.{TellsCopied}
 use Rattle.lc_tool.specs.Files.{TellsInit, TellsInspection}

@@ -4,13 +4,13 @@ use Rattle.std.specs.Prelude.{◌≡◌, ◌⊎◌, ℕ, Bool, true, false, List
 use Rattle.lc_record.specs.declared.geometry.Geometry.{Geometry}
 use Rattle.lc_recover.specs.declared.fault.RecoverFault.{RecoverFault}
 use Rattle.lc_recover.specs.declared.fault.RecoverFault.TheVariants.{BadGeometry, DeviceFault, NoMemory}
-use Rattle.lc_files.specs.Files.{name_text}
-use Rattle.lc_files.specs.declared.folder.FolderFault.{FolderFault}
-use Rattle.lc_files.specs.declared.folder.FolderFault.TheVariants.{Failed, NoMemory as WantsMemory}
-use Rattle.lc_files.specs.declared.misfit.Misfit.{Misfit}
-use Rattle.lc_files.specs.declared.misfit.Misfit.TheVariants.{Missing, NoLen, OtherLen}
-use Rattle.lc_files.specs.declared.sizing.Unopened.{Unopened}
-use Rattle.lc_files.specs.declared.sizing.Unopened.TheVariants.{Folder, OtherSize}
+use Rattle.lc_folder.specs.Files.{name_text}
+use Rattle.lc_folder.specs.declared.folder.FolderFault.{FolderFault}
+use Rattle.lc_folder.specs.declared.folder.FolderFault.TheVariants.{Failed, NoMemory as WantsMemory}
+use Rattle.lc_folder.specs.declared.misfit.Misfit.{Misfit}
+use Rattle.lc_folder.specs.declared.misfit.Misfit.TheVariants.{Missing, NoLen, OtherLen}
+use Rattle.lc_folder.specs.declared.sizing.Unopened.{Unopened}
+use Rattle.lc_folder.specs.declared.sizing.Unopened.TheVariants.{Folder, OtherSize}
 use Rattle.lc_look.specs.Json.{EndsJson, TellsUnread}
 use Rattle.lc_tool.specs.Found.{IsAsFound, IsTaken, TellsChecked, unsized_status}
 use Rattle.lc_words.specs.declared.size.Size.{Size}

@@ -3,7 +3,7 @@ use Rattle.std.specs.Prelude.{◌≡◌, ◌⊎◌, ℕ, List, []}
 use Rattle.std.specs.Option.{unwrap_or}
 use Rattle.lc_record.specs.Geometry.{HasNumbers, IsGeometry}
 use Rattle.lc_record.specs.declared.geometry.Geometry.{Geometry}
-use Rattle.lc_files.specs.Growth.{Holds, IsLacking}
+use Rattle.lc_folder.specs.Growth.{Holds, IsLacking}
 use Rattle.lc_tool.specs.Files.{NotOpened, TellsInit}
 use Rattle.lc_tool.specs.Found.{TellsMisfit}
 use Rattle.lc_tool.specs.declared.copying.NoCopySize.{NoCopySize}

@@ -1,13 +1,13 @@
 -- What is told of the files of a store, and why it is not opened.
 use Rattle.std.specs.Prelude.{◌≡◌, ◌⊎◌, ℕ, Bool, List, [], Option, Result, Ok, Err}
 use Rattle.lc_model.specs.declared.refusal.Refusal.TheVariants.{BadGeometry, DeviceFault}
-use Rattle.lc_files.specs.declared.folder.FolderFault.{FolderFault}
-use Rattle.lc_files.specs.declared.folder.FolderFault.TheVariants.{Failed, NoMemory}
-use Rattle.lc_files.specs.declared.making.Cause.{Cause}
-use Rattle.lc_files.specs.declared.making.Cause.TheVariants.{Exists, Folder}
-use Rattle.lc_files.specs.declared.making.Unmade.{Unmade}
-use Rattle.lc_files.specs.declared.sizing.Unopened.{Unopened}
-use Rattle.lc_files.specs.declared.sizing.Unopened.TheVariants.{Folder as NoFolder, OtherSize}
+use Rattle.lc_folder.specs.declared.folder.FolderFault.{FolderFault}
+use Rattle.lc_folder.specs.declared.folder.FolderFault.TheVariants.{Failed, NoMemory}
+use Rattle.lc_folder.specs.declared.making.Cause.{Cause}
+use Rattle.lc_folder.specs.declared.making.Cause.TheVariants.{Exists, Folder}
+use Rattle.lc_folder.specs.declared.making.Unmade.{Unmade}
+use Rattle.lc_folder.specs.declared.sizing.Unopened.{Unopened}
+use Rattle.lc_folder.specs.declared.sizing.Unopened.TheVariants.{Folder as NoFolder, OtherSize}
 use Rattle.lc_look.specs.Printed.{Adds, NoMemory as WantsMemory, Stops}
 use Rattle.lc_text.specs.Inspector.{Inspects}
 use Rattle.lc_text.specs.Text.{exists_text, refusal_text}

@@ -13,7 +13,7 @@ use Rattle.lc_model.specs.declared.reply.Reply.TheVariants.{Refused}
 use Rattle.lc_recover.specs.Reads.{AreHonest, ReadsRefused}
 use Rattle.lc_recover.specs.Recovery.{begun}
 use Rattle.lc_core.specs.Lives.{AnswersOne, FitsLife, Life}
-use Rattle.lc_core.specs.Numbers.{Numbers}
+use Rattle.lc_settled.specs.Numbers.{Numbers}
 use Rattle.lc_core.specs.World.{FitsUp, FitsWorld, LeadsTo}
 use Rattle.lc_core.specs.declared.world_phase.WorldPhase.TheVariants.{Down, Up}
 use Rattle.lc_core.specs.declared.up.Up.{Up as UpStore}

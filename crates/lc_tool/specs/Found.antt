@@ -7,8 +7,8 @@ use Rattle.lc_record.specs.declared.geometry.Geometry.{Geometry}
 use Rattle.lc_look.specs.Checks.{EndsWithRecovery}
 use Rattle.lc_look.specs.Draws.{TellsDraw}
 use Rattle.lc_look.specs.Dumps.{TellsDump}
-use Rattle.lc_files.specs.Found.{misfit_text}
-use Rattle.lc_files.specs.declared.misfit.Misfit.{Misfit}
+use Rattle.lc_folder.specs.Found.{misfit_text}
+use Rattle.lc_folder.specs.declared.misfit.Misfit.{Misfit}
 use Rattle.lc_look.specs.Printed.{Stops, Adds}
 use Rattle.lc_words.specs.declared.size.Size.{Size}
 use Rattle.lc_words.specs.declared.size.Size.TheVariants.{Given, AsFound}

@@ -4,7 +4,7 @@ use Rattle.lc_model.specs.Refusals.{is_node, is_up}
 use Rattle.lc_model.specs.State.{State, Setting}
 use Rattle.lc_model.specs.declared.event.Event.TheVariants.{Reserve}
 use Rattle.lc_core.specs.Asks.{EventAsks}
-use Rattle.lc_core.specs.Numbers.{Numbers}
+use Rattle.lc_settled.specs.Numbers.{Numbers}
 use Rattle.lc_text.specs.Line.{line_of, words, is_open_ended}
 use Rattle.lc_text.specs.declared.command.Command.{Command}
 use Rattle.lc_text.specs.declared.command.Command.TheVariants.{Step as Asks, End, Flush, Truncate, Recover, Log, Inspect, Show}

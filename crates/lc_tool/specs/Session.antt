@@ -6,7 +6,7 @@ use Rattle.lc_model.specs.State.{State, Setting}
 use Rattle.lc_model.specs.declared.event.Event.TheVariants.{Reserve, FlushStep, RecoverStep}
 use Rattle.lc_model.specs.declared.reply.Reply.{Reply}
 use Rattle.lc_model.specs.declared.reply.Reply.TheVariants.{Nothing, Reserved, Reset}
-use Rattle.lc_core.specs.Numbers.{Numbers}
+use Rattle.lc_settled.specs.Numbers.{Numbers}
 use Rattle.lc_tool.specs.Answers.{Answers, Ends, Finishes}
 use Rattle.lc_tool.specs.Shown.{ShowsLog, ShowsPage}
 use Rattle.lc_text.specs.Text.{reply_text, closed_text, truncated_text, words_text, records_text}

@@ -9,10 +9,11 @@ use Rattle.lc_model.specs.Stored.{records_of}
 use Rattle.lc_model.specs.declared.refusal.Refusal.{Refusal}
 use Rattle.lc_model.specs.declared.refusal.Refusal.TheVariants.{DeviceFault, Down as IsDown, Unknown}
 use Rattle.lc_core.specs.LogWords.{logged_records}
-use Rattle.lc_core.specs.Numbers.{Numbers, stable_records}
-use Rattle.lc_core.specs.Showing.{image_of, page_of}
-use Rattle.lc_core.specs.declared.show_fault.ShowFault.{ShowFault}
-use Rattle.lc_core.specs.declared.show_fault.ShowFault.TheVariants.{Unknown as IsUnknown, DeviceFault as HasFailed, NoMemory}
+use Rattle.lc_settled.specs.Numbers.{Numbers, stable_records}
+use Rattle.lc_core.specs.Showing.{image_of}
+use Rattle.lc_desk.specs.Showing.{page_of}
+use Rattle.lc_journal.specs.declared.show_fault.ShowFault.{ShowFault}
+use Rattle.lc_journal.specs.declared.show_fault.ShowFault.TheVariants.{Unknown as IsUnknown, DeviceFault as HasFailed, NoMemory}
 use Rattle.lc_text.specs.Text.{page_text, refusal_text}
 use Rattle.lc_tool.specs.declared.verdict.Verdict.{Verdict}
 use Rattle.lc_tool.specs.declared.verdict.Verdict.TheVariants.{Done, Refused, Faulted}

@@ -4,7 +4,7 @@ use Rattle.lc_disk.specs.declared.area.Area.{Ghosts}
 use Rattle.lc_record.specs.declared.geometry.Geometry.{Geometry}
 use Rattle.lc_model.specs.State.{Setting, first_state}
 use Rattle.lc_recover.specs.Reads.{AllMergeTo, AreHonest, HaveLengths}
-use Rattle.lc_core.specs.Numbers.{Numbers}
+use Rattle.lc_settled.specs.Numbers.{Numbers}
 use Rattle.lc_look.specs.Printed.{Adds}
 use Rattle.lc_tool.specs.Script.{Given, RunsScript}
 

@@ -4,9 +4,9 @@ use Rattle.lc_record.specs.declared.geometry.Geometry.{Geometry}
 use Rattle.lc_look.specs.Checks.{EndsWithRecovery}
 use Rattle.lc_look.specs.Draws.{TellsDraw}
 use Rattle.lc_look.specs.Dumps.{TellsDump}
-use Rattle.lc_files.specs.Found.{misfit_text}
+use Rattle.lc_folder.specs.Found.{misfit_text}
 use Rattle.lc_tool.specs.Found.{IsAsFound, IsTaken, TellsChecked, TellsDrawn, TellsDumped, size_text, unsized_status}
-use Rattle.lc_files.specs.declared.misfit.Misfit.{Misfit}
+use Rattle.lc_folder.specs.declared.misfit.Misfit.{Misfit}
 use Rattle.lc_tool.specs.declared.store_report.StoreReport.{StoreReport}
 use Rattle.lc_tool.specs.declared.store_report.StoreReport.TheVariants.{Check, Dump, Draw}
 

@@ -14,9 +14,9 @@ use Rattle.lc_model.specs.declared.refusal.Refusal.{Refusal}
 use Rattle.lc_model.specs.declared.refusal.Refusal.TheVariants.{DeviceFault, Down as IsDown, Unknown}
 use Rattle.lc_model.specs.declared.reply.Reply.{Reply}
 use Rattle.lc_model.specs.declared.reply.Reply.TheVariants.{Refused}
-use Rattle.lc_core.specs.Geometries.{is_delivery}
+use Rattle.lc_events.specs.Geometries.{is_delivery}
 use Rattle.lc_core.specs.Lives.{AnswersOne, IsBorn, Life}
-use Rattle.lc_core.specs.Numbers.{Numbers}
+use Rattle.lc_settled.specs.Numbers.{Numbers}
 use Rattle.lc_text.specs.Line.{is_skipped, line_of}
 use Rattle.lc_tool.specs.Answers.{IsStepped}
 use Rattle.lc_tool.specs.Outcome.{EndsWith, GoesBehind}

@@ -9,8 +9,9 @@ use Rattle.lc_model.specs.declared.refusal.Refusal.TheVariants.{Uncommitted}
 use Rattle.lc_model.specs.declared.reply.Reply.{Reply}
 use Rattle.lc_model.specs.declared.reply.Reply.TheVariants.{Refused}
 use Rattle.lc_core.specs.Due.{is_blocked_then, is_due_then}
-use Rattle.lc_core.specs.Numbers.{Numbers}
-use Rattle.lc_core.specs.Truncating.{ending, refusal_in, stopping}
+use Rattle.lc_settled.specs.Numbers.{Numbers}
+use Rattle.lc_core.specs.Truncating.{ending, stopping}
+use Rattle.lc_events.specs.Truncating.{refusal_in}
 use Rattle.lc_tool.specs.Answers.{Answers}
 
 -- A piece of work: from a state and numbers to others, with why it was refused, if it was.

@@ -1,7 +1,7 @@
 //! What the calls of a store hand out, as the replies of their events.
 ghost use Rattle.std.specs.Prelude.{◌≡◌, IfOk, OnErr, Err, Some};
-ghost use Rattle.lc_core.specs.Answered.{flushed, place_taken};
-ghost use Rattle.lc_core.specs.declared.call_fault.CallFault.TheVariants.{NoMemory};
+ghost use Rattle.lc_events.specs.Answered.{flushed, place_taken};
+ghost use Rattle.lc_events.specs.declared.call_fault.CallFault.TheVariants.{NoMemory};
 
 use lc_core::{CallFault, FlushProgress, Placement, Refusal, Reply};
 use std::alloc::AllocError;

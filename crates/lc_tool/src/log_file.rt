@@ -2,7 +2,7 @@
 ghost use Rattle.std.specs.Prelude.{◌≡◌, ◌↔◌, ◌⊎◌, IfOk, IsTrue};
 ghost use Rattle.std.specs.Io.KnownBytes.{Appends};
 ghost use Rattle.lc_record.specs.Words.{words_of};
-ghost use Rattle.lc_files.specs.Files.{IsLogLen};
+ghost use Rattle.lc_folder.specs.Files.{IsLogLen};
 ghost use Rattle.lc_tool.specs.Files.{TellsInspection};
 ghost use Rattle.lc_text.specs.Inspector.{Inspects};
 ghost use Rattle.lc_text.specs.Text.{no_memory_text};

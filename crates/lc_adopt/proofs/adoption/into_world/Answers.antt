@@ -1,7 +1,7 @@
 use Rattle.std.proofs.Common.{inl, inr, sym, subst, arith}
 use Rattle.std.specs.Prelude.{IfErr}
 use Rattle.std.proofs.lemmas.Result.{err_from_is_err_and}
-use Rattle.lc_node.proofs.Refused.{handed_on}
+use Rattle.lc_log_side.proofs.Refused.{handed_on}
 use Rattle.lc_adopt.specs.Refusals.{StopsAdoption, StopsCluster}
 use Rattle.lc_adopt.proofs.Refused.{of_adopted}
 use Rattle.lc_adopt.proofs.adoption.into_world.Goals as goal

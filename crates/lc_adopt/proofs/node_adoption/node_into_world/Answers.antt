@@ -1,8 +1,8 @@
 use Rattle.std.proofs.Common.{inl, inr, sym, subst, ◌∙◌, ap, refl}
 use Rattle.std.specs.Prelude.{IfErr, slice_get}
 use Rattle.std.proofs.lemmas.Result.{err_from_is_err_and}
-use Rattle.lc_node.specs.LeftBy.{AreReceived}
-use Rattle.lc_node.proofs.Refused.{handed_on}
+use Rattle.lc_log_side.specs.LeftBy.{AreReceived}
+use Rattle.lc_log_side.proofs.Refused.{handed_on}
 use Rattle.lc_adopt.specs.Refusals.{StopsAdoption, StopsCluster}
 use Rattle.lc_adopt.proofs.OneNode.{first_alone}
 use Rattle.lc_adopt.proofs.Refused.{of_adopted}

@@ -1,4 +1,4 @@
-use Rattle.lc_node.specs.Cluster.{IsSeatAt}
+use Rattle.lc_cluster.specs.Cluster.{IsSeatAt}
 use Rattle.lc_bench.proofs.resident.two_nodes.Given as goal
 
 abbrev pub invariant-loop-round : goal.invariant-loop-round

@@ -1,7 +1,7 @@
 use Rattle.std.proofs.Common.{rules, ◌≡◌, List, ℕ, refl, subst}
 use Rattle.std.specs.Prelude.{Ok, Err}
 use Rattle.lc_model.specs.declared.event.Event.TheVariants.{Write}
-use Rattle.lc_core.specs.Answered.{done}
+use Rattle.lc_events.specs.Answered.{done}
 use Rattle.lc_core.specs.Truncating.{StepsTo}
 use Rattle.lc_c.specs.contracts.mirror_area.MirrorAreaArea.TheImpl.{ghosts}
 use Rattle.lc_c.proofs.restoring.give_back.Goals as goal

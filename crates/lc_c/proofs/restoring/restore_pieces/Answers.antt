@@ -1,7 +1,7 @@
 use Rattle.std.proofs.Common.{rules, ◌≡◌, ◌<◌, ◌≤◌, ◌∙◌, ◌++◌, [], List, ap, arith, drop, length, sym, subst, take, true}
 use Rattle.std.specs.Prelude.{Ok, Err, Result, remove}
 use Rattle.std.proofs.lemmas.List.{take-append-drop}
-use Rattle.lc_core.specs.declared.call_fault.CallFault.{CallFault}
+use Rattle.lc_events.specs.declared.call_fault.CallFault.{CallFault}
 use Rattle.lc_c.specs.SuspendedTransactions.{is_of}
 use Rattle.lc_c.specs.Restores.{Restores}
 use Rattle.lc_c.specs.declared.aborted_range.AbortedRange.{AbortedRange}

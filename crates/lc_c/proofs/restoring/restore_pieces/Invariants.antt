@@ -1,6 +1,6 @@
 use Rattle.std.proofs.Common.{◌-◌, ◌++◌, List, drop, length, take}
 use Rattle.std.specs.Prelude.{Result}
-use Rattle.lc_core.specs.declared.call_fault.CallFault.{CallFault}
+use Rattle.lc_events.specs.declared.call_fault.CallFault.{CallFault}
 use Rattle.lc_c.specs.Restores.{Restores}
 use Rattle.lc_c.specs.SessionState.{SessionStore}
 use Rattle.lc_c.specs.declared.aborted_range.AbortedRange.{AbortedRange}

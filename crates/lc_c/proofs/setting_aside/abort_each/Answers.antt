@@ -1,4 +1,4 @@
-use Rattle.lc_core.specs.Answered.{done}
+use Rattle.lc_events.specs.Answered.{done}
 use Rattle.lc_c.proofs.Rows.{one_aborted}
 use Rattle.lc_c.proofs.setting_aside.abort_each.Goals as goal
 

@@ -1,6 +1,6 @@
 use Rattle.std.proofs.Common.{List, ℕ, subst}
 use Rattle.lc_model.specs.declared.event.Event.TheVariants.{Begin}
-use Rattle.lc_core.specs.Answered.{done}
+use Rattle.lc_events.specs.Answered.{done}
 use Rattle.lc_core.specs.Truncating.{StepsTo}
 use Rattle.lc_c.specs.contracts.mirror_area.MirrorAreaArea.TheImpl.{ghosts}
 use Rattle.lc_c.proofs.Rows.{one_begun}

@@ -1,5 +1,5 @@
 use Rattle.std.proofs.Common.{rules, ◌≡◌, ℕ, List, None, Some, sym, subst, ◌∙◌, ap, length}
-use Rattle.lc_node.specs.Among.{IsAmong}
+use Rattle.lc_log_side.specs.Among.{IsAmong}
 use Rattle.lc_committer.proofs.ReadBack.{absent, present}
 use Rattle.lc_committer.proofs.reading.copy_record.Goals as goal
 

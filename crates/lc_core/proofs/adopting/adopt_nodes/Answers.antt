@@ -4,11 +4,13 @@ use Rattle.std.proofs.lemmas.List.{drop-drop}
 use Rattle.std.proofs.lemmas.Option.{slice_get-get_or, slice_get_within}
 use Rattle.lc_token.specs.declared.token.Token.{Token}
 use Rattle.lc_record.proofs.ListLemmas.{slice_get_some as some_at, left_first as next_left, left_some as some_left_over, set_behind as behind_set}
-use Rattle.lc_core.specs.Pieces.{IsMadeNode, left_at, left_by}
-use Rattle.lc_core.specs.Places.{same_some}
-use Rattle.lc_core.specs.declared.node_state.NodeState.{NodeState}
-use Rattle.lc_core.specs.declared.node_piece.NodePiece.{NodePiece}
-use Rattle.lc_core.proofs.Furnishing.{front_set}
+use Rattle.lc_events.specs.Pieces.{IsMadeNode}
+use Rattle.lc_desk.specs.Pieces.{left_at}
+use Rattle.lc_core.specs.Pieces.{left_by}
+use Rattle.lc_settled.specs.Places.{same_some}
+use Rattle.lc_events.specs.declared.node_state.NodeState.{NodeState}
+use Rattle.lc_journal.specs.declared.node_piece.NodePiece.{NodePiece}
+use Rattle.lc_desk.proofs.Furnishing.{front_set}
 use Rattle.lc_core.proofs.Pieces.{left_first, left_next, made_of_all, tokens_left}
 use Rattle.lc_core.proofs.adopting.adopt_nodes.Goals as goal
 

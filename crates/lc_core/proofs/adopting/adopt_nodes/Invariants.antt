@@ -1,10 +1,12 @@
 use Rattle.std.proofs.Common.{◌≡◌, ℕ, ◌<◌, ◌≤◌, Option, Some}
 use Rattle.std.specs.Prelude.{drop, slice_get}
 use Rattle.lc_token.specs.declared.token.Token.{Token}
-use Rattle.lc_core.specs.Pieces.{AreTokens, IsMadeNode, left_by}
-use Rattle.lc_core.specs.declared.node_state.NodeState.{NodeState}
-use Rattle.lc_core.specs.declared.node_piece.NodePiece.{NodePiece}
-use Rattle.lc_core.specs.declared.segment_piece.SegmentPiece.{SegmentPiece}
+use Rattle.lc_desk.specs.Pieces.{AreTokens}
+use Rattle.lc_events.specs.Pieces.{IsMadeNode}
+use Rattle.lc_core.specs.Pieces.{left_by}
+use Rattle.lc_events.specs.declared.node_state.NodeState.{NodeState}
+use Rattle.lc_journal.specs.declared.node_piece.NodePiece.{NodePiece}
+use Rattle.lc_desk.specs.declared.segment_piece.SegmentPiece.{SegmentPiece}
 use Rattle.lc_core.proofs.adopting.adopt_nodes.Given as goal
 
 abbrev pub invariant-loop-number : goal.invariant-loop-number

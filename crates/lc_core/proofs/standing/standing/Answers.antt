@@ -2,7 +2,7 @@ use Rattle.std.proofs.Common.{◌≡◌, ◌<◌, Some, length, map, take, ap, �
 use Rattle.std.proofs.lemmas.List.{take_all}
 use Rattle.lc_token.specs.declared.token.Token.{Token}
 use Rattle.lc_record.proofs.ListLemmas.{left_some as some_left_over, left_more as rest_removed}
-use Rattle.lc_core.proofs.Removed.{mapped_next, next_removed}
+use Rattle.lc_reading.proofs.Removed.{mapped_next, next_removed}
 use Rattle.lc_core.proofs.standing.standing.Goals as goal
 
 pub remove-requires : goal.remove-requires

@@ -1,7 +1,7 @@
 use Rattle.std.proofs.Common.{◌≡◌, length, ◌∷◌, ◌++◌, [], arith}
 use Rattle.lc_record.proofs.ListLemmas.{each_push as each_pushed}
-use Rattle.lc_core.specs.Blank.{IsBlankNode}
-use Rattle.lc_core.proofs.Furnishing.{each_same}
+use Rattle.lc_events.specs.Blank.{IsBlankNode}
+use Rattle.lc_desk.proofs.Furnishing.{each_same}
 use Rattle.lc_core.proofs.world_room.blank_nodes.Goals as goal
 
 pub loop-number-preserved : goal.loop-number-preserved

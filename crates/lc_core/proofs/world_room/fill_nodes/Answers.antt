@@ -2,8 +2,8 @@ use Rattle.std.proofs.Common.{◌≡◌, ◌≤◌, Some, sym, ◌∙◌, arith}
 use Rattle.std.specs.Prelude.{slice_get, slice_index_or}
 use Rattle.std.proofs.lemmas.Option.{slice_get-get_or, slice_get_within}
 use Rattle.lc_record.proofs.ListLemmas.{set_behind as behind_set}
-use Rattle.lc_core.specs.Blank.{IsFilledNode}
-use Rattle.lc_core.proofs.Furnishing.{front_set}
+use Rattle.lc_events.specs.Blank.{IsFilledNode}
+use Rattle.lc_desk.proofs.Furnishing.{front_set}
 use Rattle.lc_core.proofs.world_room.fill_nodes.Goals as goal
 
 pub fill-requires : goal.fill-requires

@@ -3,10 +3,10 @@ use Rattle.std.specs.Prelude.{slice_get, slice_index_or}
 use Rattle.std.proofs.lemmas.List.{drop-drop}
 use Rattle.std.proofs.lemmas.Option.{slice_get-get_or, slice_get_within}
 use Rattle.lc_recover.specs.Recovered.{AreFinished}
-use Rattle.lc_core.specs.Blank.{IsFilledNode}
-use Rattle.lc_core.specs.Log.{Stands, area_of, is_idle}
-use Rattle.lc_core.specs.declared.node_state.NodeState.{NodeState}
-use Rattle.lc_core.proofs.Furnishing.{each_set, front_set}
+use Rattle.lc_events.specs.Blank.{IsFilledNode}
+use Rattle.lc_journal.specs.Log.{Stands, area_of, is_idle}
+use Rattle.lc_events.specs.declared.node_state.NodeState.{NodeState}
+use Rattle.lc_desk.proofs.Furnishing.{each_set, front_set}
 use Rattle.lc_core.proofs.Opening.{log_area, left_some, left_is, log_closed, log_clean}
 use Rattle.lc_core.proofs.world_room.open_logs.Goals as goal
 

@@ -2,8 +2,8 @@ use Rattle.std.proofs.Common.{◌≡◌, ℕ, ◌<◌, ◌≤◌, true, [], drop
 use Rattle.std.specs.Prelude.{slice_get}
 use Rattle.lc_recover.specs.Recovered.{AreFinished}
 use Rattle.lc_core.specs.Blank.{AreFilledNodes}
-use Rattle.lc_core.specs.Log.{Stands, area_of, is_idle}
-use Rattle.lc_core.specs.declared.node_state.NodeState.{NodeState}
+use Rattle.lc_journal.specs.Log.{Stands, area_of, is_idle}
+use Rattle.lc_events.specs.declared.node_state.NodeState.{NodeState}
 use Rattle.lc_core.proofs.world_room.open_logs.Given as goal
 
 abbrev pub invariant-loop-node : goal.invariant-loop-node

@@ -3,9 +3,9 @@ use Rattle.std.specs.Prelude.{replicate}
 use Rattle.std.specs.Global.{Vec}
 use Rattle.lc_record.proofs.ListLemmas.{each_push as each_pushed}
 use Rattle.lc_core.specs.PageState.{resting}
-use Rattle.lc_core.specs.declared.page_state.PageState.{PageState}
-use Rattle.lc_core.specs.declared.page_state.PageState.TheVariants.{AtRest}
-use Rattle.lc_core.proofs.Furnishing.{each_same}
+use Rattle.lc_desk.specs.declared.page_state.PageState.{PageState}
+use Rattle.lc_desk.specs.declared.page_state.PageState.TheVariants.{AtRest}
+use Rattle.lc_desk.proofs.Furnishing.{each_same}
 use Rattle.lc_core.proofs.world_room.resting_pages.Goals as goal
 
 pub loop-preserved : goal.loop-preserved

@@ -1,7 +1,7 @@
 use Rattle.std.proofs.Common.{◌+◌, ◌<◌, length, ap, sym, ◌∙◌, arith}
 use Rattle.std.specs.Prelude.{slice_get}
 use Rattle.lc_record.proofs.ListLemmas.{slice_get-drop as at_drop}
-use Rattle.lc_core.specs.declared.pages.Pages.{Pages}
+use Rattle.lc_desk.specs.declared.pages.Pages.{Pages}
 use Rattle.lc_core.proofs.Furnishing.{goes_over}
 use Rattle.lc_core.proofs.world_room.with_areas.Goals as goal
 

@@ -1,10 +1,10 @@
 use Rattle.std.proofs.Common.{◌≡◌, ◌+◌, ◌*◌, ◌≤◌, ◌++◌, ℕ, map, length, Some, vec_len, vec_capacity}
 use Rattle.std.specs.Prelude.{slice_get}
 use Rattle.std.specs.Global.{Vec}
-use Rattle.lc_core.specs.PageState.{AreNamed}
+use Rattle.lc_desk.specs.PageState.{AreNamed}
 use Rattle.lc_core.specs.Pages.{areas_of}
-use Rattle.lc_core.specs.declared.page_state.PageState.{PageState}
-use Rattle.lc_core.specs.declared.pages.Pages.{Pages}
+use Rattle.lc_desk.specs.declared.page_state.PageState.{PageState}
+use Rattle.lc_desk.specs.declared.pages.Pages.{Pages}
 use Rattle.lc_core.proofs.world_room.with_areas.Given as goal
 
 abbrev pub invariant-loop : goal.invariant-loop

@@ -1,8 +1,8 @@
 use Rattle.std.proofs.Common.{rules, ◌≡◌, Some, None, sym, ap, ◌∙◌}
 use Rattle.std.specs.Prelude.{IsSome}
 use Rattle.std.proofs.lemmas.Option.{same_Some as some_same}
-use Rattle.lc_node.specs.SegView.{SegView}
-use Rattle.lc_node.specs.declared.held.HeldSide.{HeldSide}
+use Rattle.lc_segments.specs.SegView.{SegView}
+use Rattle.lc_segments.specs.declared.held.HeldSide.{HeldSide}
 use Rattle.lc_node.proofs.FirstGone.{all_here, gone_now, looks, looks_on}
 use Rattle.lc_node.proofs.absent.first_absent.Goals as goal
 

@@ -1,6 +1,6 @@
 use Rattle.std.proofs.Common.{◌≡◌, ◌*◌, ◌≤◌, length, ap, subst, ◌∙◌, arith}
-use Rattle.lc_node.specs.SegView.{SegView}
-use Rattle.lc_node.specs.declared.held.HeldSide.{HeldSide}
+use Rattle.lc_segments.specs.SegView.{SegView}
+use Rattle.lc_segments.specs.declared.held.HeldSide.{HeldSide}
 use Rattle.lc_node.proofs.PagesWritten.{pages_more, pages_in_all, upto_max}
 use Rattle.lc_node.proofs.cleaning.most_pages.Goals as goal
 

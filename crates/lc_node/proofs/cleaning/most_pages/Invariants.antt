@@ -1,5 +1,5 @@
 use Rattle.std.proofs.Common.{All, take}
-use Rattle.lc_node.specs.Truncates.{HasPagesIn}
+use Rattle.lc_log_side.specs.Truncates.{HasPagesIn}
 use Rattle.lc_node.proofs.cleaning.most_pages.Given as goal
 
 abbrev pub invariant-loop-held : goal.invariant-loop-held

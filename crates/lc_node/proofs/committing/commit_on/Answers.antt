@@ -3,11 +3,11 @@ use Rattle.std.specs.Prelude.{◌⊎◌, IfErr, IsSome}
 use Rattle.lc_tx.specs.declared.tx_fault.TxFault.TheVariants.{NotHere as NotThere}
 use Rattle.lc_node.specs.Commits.{IsFirstGone, IsKept, IsUnbegunOn, IsUncommitted, bytes_at, segments_in}
 use Rattle.lc_node.specs.Halting.{IsHalted}
-use Rattle.lc_node.specs.Each.{Each}
+use Rattle.lc_segments.specs.Each.{Each}
 use Rattle.lc_node.specs.Held.{IsHeldOf}
 use Rattle.lc_node.specs.Stages.{Sees}
-use Rattle.lc_node.specs.declared.node_fault.NodeFault.{NodeFault}
-use Rattle.lc_node.specs.declared.held.HeldSide.{HeldSide}
+use Rattle.lc_segments.specs.declared.node_fault.NodeFault.{NodeFault}
+use Rattle.lc_segments.specs.declared.held.HeldSide.{HeldSide}
 use Rattle.lc_stage.specs.Seats.{commit_view}
 use Rattle.lc_node.proofs.FirstGone.{first_absent}
 use Rattle.lc_node.proofs.Roomed.{at_err, cases_done, each_err, kept_tidy}

@@ -4,12 +4,12 @@ use Rattle.lc_stage.specs.Seats.{commit_view}
 use Rattle.lc_stage.specs.declared.stage_view.StageView.{StageView}
 use Rattle.lc_node.specs.Attempts.{IsUndone}
 use Rattle.lc_node.specs.Commits.{IsKept, IsUnbegunOn, IsUncommitted, bytes_at}
-use Rattle.lc_node.specs.Each.{Each}
-use Rattle.lc_node.specs.HeldImages.{the_images}
+use Rattle.lc_segments.specs.Each.{Each}
+use Rattle.lc_segments.specs.HeldImages.{the_images}
 use Rattle.lc_node.specs.Sides.{HasMoreRoom, IsReady}
 use Rattle.lc_node.specs.Stages.{Sees}
-use Rattle.lc_node.specs.declared.held.HeldSide.{HeldSide}
-use Rattle.lc_node.specs.declared.lent.HeldImages.{HeldImages}
+use Rattle.lc_segments.specs.declared.held.HeldSide.{HeldSide}
+use Rattle.lc_segments.specs.declared.lent.HeldImages.{HeldImages}
 use Rattle.lc_node.proofs.CommitPaths.{small, may_return, returned, returned_tidy, may_go_back, all_of_it, ran_of, why_of}
 use Rattle.lc_node.proofs.Roomed.{Primed, at_err, cases_done, each_err, here_roomier, kept_self, primed}
 use Rattle.lc_node.proofs.Standing.{segments_kept, segments_roomier}

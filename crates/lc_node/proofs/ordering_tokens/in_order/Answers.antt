@@ -7,7 +7,7 @@ use Rattle.lc_node.specs.Refusals.{HasToken, StopsTokens, first_of}
 use Rattle.lc_node.proofs.EachPlace.{each_more, each_none}
 use Rattle.lc_node.proofs.Joined.{all_more}
 use Rattle.lc_node.proofs.OrderedTokens.{all_left, first_of_all, is_left_over, next_left, same_token}
-use Rattle.lc_node.proofs.Refused.{handed_on}
+use Rattle.lc_log_side.proofs.Refused.{handed_on}
 use Rattle.lc_node.proofs.ordering_tokens.in_order.Goals as goal
 use mathlib.Core.Logic.{dite}
 use native.Mathlib.Decide.{dec_le}

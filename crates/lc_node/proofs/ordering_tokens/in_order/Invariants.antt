@@ -2,7 +2,7 @@ use Rattle.std.proofs.Common.{◌≡◌, ◌≤◌, ◌+◌, ℕ, All, Some, vec
 use Rattle.std.specs.Prelude.{slice_get}
 use Rattle.lc_rest.specs.Parts.{KeepsPages}
 use Rattle.lc_rest.specs.declared.segment_part.SegmentPart.{SegmentPart}
-use Rattle.lc_node.specs.LeftBy.{IsSettledPart}
+use Rattle.lc_segments.specs.LeftBy.{IsSettledPart}
 use Rattle.lc_node.specs.Refusals.{HasToken, first_of}
 use Rattle.lc_node.proofs.OrderedTokens.{left_behind}
 use Rattle.lc_node.proofs.ordering_tokens.in_order.Given as goal

@@ -3,7 +3,7 @@ use Rattle.std.specs.Prelude.{position, slice_index_or}
 use Rattle.std.proofs.lemmas.Option.{slice_get-get_or}
 use Rattle.std.proofs.Math.ListN.{take}
 use Rattle.std.proofs.lemmas.List.Elements.{All-append, All-drop, All-take}
-use Rattle.lc_node.specs.LeftBy.{IsSettledPart}
+use Rattle.lc_segments.specs.LeftBy.{IsSettledPart}
 use Rattle.lc_node.specs.Refusals.{first_of}
 use Rattle.lc_node.proofs.LeftTokens.{keeps_pages}
 use Rattle.lc_node.proofs.OrderedTokens.{has_token, no_token, segment_of, token_at}

@@ -3,9 +3,9 @@ use Rattle.lc_node.specs.Delivering.{IsReadiedSide}
 use Rattle.lc_node.specs.Receptions.{IsForgone, IsPrepared}
 use Rattle.lc_node.proofs.Backwards.{Backwards, step, finish}
 use Rattle.lc_node.proofs.Deliveries.{joined, forgone_side}
-use Rattle.lc_node.specs.SegView.{SegView}
-use Rattle.lc_node.specs.declared.held.HeldSide.{HeldSide}
-use Rattle.lc_node.proofs.BoxedSides.{at_place}
+use Rattle.lc_segments.specs.SegView.{SegView}
+use Rattle.lc_segments.specs.declared.held.HeldSide.{HeldSide}
+use Rattle.lc_log_side.proofs.BoxedSides.{at_place}
 use Rattle.lc_node.proofs.receiving_records.forgo_all.Goals as goal
 
 pub loop-reception-preserved : goal.loop-reception-preserved

@@ -1,10 +1,11 @@
 use Rattle.std.proofs.Common.{rules, refl, arith, ap, ◌∙◌}
-use Rattle.lc_node.specs.Receptions.{IsPrepared, IsReceived}
+use Rattle.lc_node.specs.Receptions.{IsPrepared}
+use Rattle.lc_segments.specs.Receptions.{IsReceived}
 use Rattle.lc_node.proofs.Pushing.{next, all_more}
 use Rattle.lc_node.proofs.receiving_records.prepare_all.Goals as goal
-use Rattle.lc_node.specs.SegView.{SegView}
-use Rattle.lc_node.specs.declared.held.HeldSide.{HeldSide}
-use Rattle.lc_node.proofs.BoxedSides.{at_place}
+use Rattle.lc_segments.specs.SegView.{SegView}
+use Rattle.lc_segments.specs.declared.held.HeldSide.{HeldSide}
+use Rattle.lc_log_side.proofs.BoxedSides.{at_place}
 use Rattle.lc_node.proofs.receiving_records.prepare_all.Goals.{then-whole, else-whole}
 
 pub loop-place-preserved : goal.loop-place-preserved

@@ -1,5 +1,6 @@
 use Rattle.std.proofs.Common.{◌≡◌, ◌≤◌, ◌<◌, All, length, true, false, vec_capacity}
-use Rattle.lc_node.specs.Receptions.{IsPrepared, IsReceived}
+use Rattle.lc_node.specs.Receptions.{IsPrepared}
+use Rattle.lc_segments.specs.Receptions.{IsReceived}
 use Rattle.lc_node.proofs.Pushing.{Pushing}
 use Rattle.lc_node.proofs.receiving_records.prepare_all.Given as goal
 

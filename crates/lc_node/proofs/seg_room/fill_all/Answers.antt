@@ -5,7 +5,7 @@ use Rattle.lc_lock.specs.declared.ticket_lock.TicketLock.{TicketLock}
 use Rattle.lc_lock.specs.Loans.{key_of}
 use Rattle.lc_record.proofs.ListLemmas.{set_behind as unchanged_behind}
 use Rattle.lc_node.specs.Rooms.{FitsRoom, IsOfSegment}
-use Rattle.lc_node.specs.SegView.{SegView}
+use Rattle.lc_segments.specs.SegView.{SegView}
 use Rattle.lc_node.specs.Shares.{has_token, left_at}
 use Rattle.lc_node.proofs.EachPlace.{each_more, each_none, first_is, left_is}
 use Rattle.lc_node.proofs.Taking.{changed_all, changed_more, taken_is}

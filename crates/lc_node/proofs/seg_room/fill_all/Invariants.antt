@@ -3,7 +3,7 @@ use Rattle.std.specs.Prelude.{option_map, slice_get}
 use Rattle.lc_lock.specs.declared.ticket_lock.TicketLock.{TicketLock}
 use Rattle.lc_lock.specs.Loans.{key_of}
 use Rattle.lc_node.specs.Rooms.{IsOfSegment, FitsRoom}
-use Rattle.lc_node.specs.SegView.{SegView}
+use Rattle.lc_segments.specs.SegView.{SegView}
 use Rattle.lc_node.specs.Shares.{left_at}
 use Rattle.lc_node.specs.declared.seg_room.SegRoom.{SegRoom}
 use Rattle.lc_node.proofs.seg_room.fill_all.Given as goal

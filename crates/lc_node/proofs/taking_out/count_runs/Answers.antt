@@ -1,10 +1,11 @@
 use Rattle.std.proofs.Common.{◌≡◌, ◌<◌, length, sym, ap, subst, ◌∙◌, arith}
-use Rattle.lc_node.specs.Sides.{Counts, CountsRuns, MayCount, part_for}
-use Rattle.lc_node.specs.declared.lent.LentSlot.{LentSlot}
-use Rattle.lc_node.specs.SegView.{SegView}
-use Rattle.lc_node.specs.declared.held.HeldSide.{HeldSide}
-use Rattle.lc_node.proofs.BoxedSides.{at_place}
-use Rattle.lc_node.proofs.Backwards.{got_at}
+use Rattle.lc_segments.specs.Sides.{Counts, MayCount, part_for}
+use Rattle.lc_node.specs.Sides.{CountsRuns}
+use Rattle.lc_segments.specs.declared.lent.LentSlot.{LentSlot}
+use Rattle.lc_segments.specs.SegView.{SegView}
+use Rattle.lc_segments.specs.declared.held.HeldSide.{HeldSide}
+use Rattle.lc_log_side.proofs.BoxedSides.{at_place}
+use Rattle.lc_log_side.proofs.Backwards.{got_at}
 use Rattle.lc_node.proofs.Onwards.{all_onward, onward, untouched}
 use Rattle.lc_node.proofs.CountedSides.{counts_side}
 use Rattle.lc_node.proofs.taking_out.count_runs.Goals as goal

@@ -1,9 +1,10 @@
 use Rattle.std.proofs.Common.{refl, ap, ◌∙◌, inl, arith, sym}
 use Rattle.lc_node.specs.Sides.{IsRoomier, HasFewParts}
-use Rattle.lc_node.specs.SegView.{SegView}
-use Rattle.lc_node.specs.declared.held.HeldSide.{HeldSide}
-use Rattle.lc_node.proofs.BoxedSides.{at_place}
-use Rattle.lc_node.proofs.Forwards.{next, all_of, each_new}
+use Rattle.lc_segments.specs.SegView.{SegView}
+use Rattle.lc_segments.specs.declared.held.HeldSide.{HeldSide}
+use Rattle.lc_log_side.proofs.BoxedSides.{at_place}
+use Rattle.lc_log_side.proofs.Forwards.{next, all_of}
+use Rattle.lc_node.proofs.Forwards.{each_new}
 use Rattle.lc_node.proofs.Stored.{roomier_of}
 use Rattle.lc_node.proofs.taking_out.fold_grown_in.Goals as goal
 

@@ -1,14 +1,14 @@
 use Rattle.std.proofs.Common.{rules, [], ◌∷◌, ◌++◌, take, set, sym, ap, subst, ◌∙◌, arith}
 use Rattle.std.proofs.lemmas.List.{take_more}
-use Rattle.lc_node.specs.declared.lent.LentSlot.{LentSlot}
-use Rattle.lc_node.specs.Each.{Each}
-use Rattle.lc_node.specs.Sides.{IsOut}
+use Rattle.lc_segments.specs.declared.lent.LentSlot.{LentSlot}
+use Rattle.lc_segments.specs.Each.{Each}
+use Rattle.lc_segments.specs.Sides.{IsOut}
 use Rattle.lc_node.specs.Held.{lent_side}
 use Rattle.lc_node.proofs.Walking.{walked}
 use Rattle.lc_node.proofs.Backwards.{each_more}
-use Rattle.lc_node.specs.SegView.{SegView}
-use Rattle.lc_node.specs.declared.held.HeldSide.{HeldSide}
-use Rattle.lc_node.proofs.BoxedSides.{at_place}
+use Rattle.lc_segments.specs.SegView.{SegView}
+use Rattle.lc_segments.specs.declared.held.HeldSide.{HeldSide}
+use Rattle.lc_log_side.proofs.BoxedSides.{at_place}
 use Rattle.lc_node.proofs.taking_out.take_images.Goals as goal
 
 pub loop-place-preserved : goal.loop-place-preserved

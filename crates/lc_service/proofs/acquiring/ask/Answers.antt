@@ -1,7 +1,7 @@
 use Rattle.std.proofs.Common.{◌≡◌, refl, sym, subst, inl, inr, rules}
 use Rattle.std.specs.Prelude.{Err, IfErr}
-use Rattle.lc_node.specs.Calls.{HandsOverAt}
-use Rattle.lc_node.specs.Receipts.{IsOfDevice}
+use Rattle.lc_cluster.specs.Calls.{HandsOverAt}
+use Rattle.lc_log_side.specs.Receipts.{IsOfDevice}
 use Rattle.lc_service.specs.Acquiring.{FailsAtPeer}
 use Rattle.lc_service.proofs.Devices.{flush_of_device}
 use Rattle.lc_service.proofs.acquiring.ask.Goals as goal

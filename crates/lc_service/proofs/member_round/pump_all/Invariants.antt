@@ -1,6 +1,6 @@
 use Rattle.std.proofs.Common.{◌<◌, Result}
-use Rattle.lc_node.specs.Calls.{PumpsAt}
-use Rattle.lc_node.specs.declared.node_fault.NodeFault.{NodeFault}
+use Rattle.lc_cluster.specs.Calls.{PumpsAt}
+use Rattle.lc_segments.specs.declared.node_fault.NodeFault.{NodeFault}
 use Rattle.lc_node.specs.declared.pumped.Pumped.{Pumped}
 use Rattle.lc_service.proofs.member_round.pump_all.Given as goal
 

@@ -1,4 +1,4 @@
-use Rattle.lc_node.specs.Cluster.{IsSeatAt}
+use Rattle.lc_cluster.specs.Cluster.{IsSeatAt}
 use Rattle.lc_tests_cluster.proofs.clusters.put_often.Given as goal
 
 abbrev pub invariant-loop : goal.invariant-loop

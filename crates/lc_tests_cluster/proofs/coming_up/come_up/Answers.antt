@@ -1,6 +1,6 @@
 use Rattle.std.proofs.Common.{All, sym, subst, ◌∙◌, arith}
-use Rattle.lc_node.specs.Cluster.{IsSeatAt}
-use Rattle.lc_node.specs.LeftBy.{AreOwnSeats}
+use Rattle.lc_cluster.specs.Cluster.{IsSeatAt}
+use Rattle.lc_cluster.specs.LeftBy.{AreOwnSeats}
 use Rattle.lc_tests_cluster.proofs.coming_up.come_up.Goals as goal
 
 pub into_world-requires : goal.into_world-requires

@@ -1,5 +1,5 @@
 use Rattle.std.proofs.Common.{rules, All}
-use Rattle.lc_node.specs.LeftBy.{IsIdleSeatOf}
+use Rattle.lc_log_side.specs.LeftBy.{IsIdleSeatOf}
 use Rattle.lc_tests_cluster.proofs.OwnSeats.{own_of_two}
 use Rattle.lc_tests_cluster.proofs.coming_up.commit_as_four.Goals as goal
 

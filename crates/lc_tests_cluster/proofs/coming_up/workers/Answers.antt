@@ -1,5 +1,5 @@
 use Rattle.std.proofs.Common.{◌≡◌, ◌+◌, ◌<◌, ℕ, length, subst, arith}
-use Rattle.lc_node.specs.Cluster.{IsSeatAt}
+use Rattle.lc_cluster.specs.Cluster.{IsSeatAt}
 use Rattle.lc_node.proofs.EachPlace.{first_is, left_is}
 use Rattle.lc_tests_cluster.proofs.coming_up.workers.Goals as goal
 

@@ -1,5 +1,5 @@
 use Rattle.std.proofs.Common.{◌≡◌, length}
-use Rattle.lc_node.specs.Cluster.{IsSeatAt}
+use Rattle.lc_cluster.specs.Cluster.{IsSeatAt}
 use Rattle.lc_tests_cluster.proofs.pair.left.Given as goal
 
 abbrev pub invariant-loop-node : goal.invariant-loop-node

@@ -1,7 +1,7 @@
 use Rattle.std.proofs.Common.{◌≡◌, ◌+◌, ℕ, Some, vec_len}
 use Rattle.std.specs.Prelude.{slice_get}
 use Rattle.lc_stage.specs.declared.seats.CommitSeat.{CommitSeat as Seat}
-use Rattle.lc_node.specs.Cluster.{IsSeatAt}
+use Rattle.lc_cluster.specs.Cluster.{IsSeatAt}
 use Rattle.lc_tests_cluster.proofs.rings.workers.Given as goal
 
 abbrev pub invariant-loop-number : goal.invariant-loop-number

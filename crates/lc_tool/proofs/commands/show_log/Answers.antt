@@ -2,7 +2,7 @@ use Rattle.std.proofs.Common.{◌∙◌, List, ℕ, ap, refl, subst, Err}
 use Rattle.std.proofs.lemmas.Result.{IfOk-weaker}
 use Rattle.std.specs.Io.KnownBytes.{Appends}
 use Rattle.lc_text.specs.Text.{refusal_text, words_text}
-use Rattle.lc_core.specs.declared.show_fault.ShowFault.TheVariants.{Unknown}
+use Rattle.lc_journal.specs.declared.show_fault.ShowFault.TheVariants.{Unknown}
 use Rattle.lc_tool.proofs.Beside.{life_geometry}
 use Rattle.lc_tool.proofs.Keeping.{log_lives, log_refused, log_shown}
 use Rattle.lc_tool.proofs.LogShown.{log_asks, log_fault, log_performs}

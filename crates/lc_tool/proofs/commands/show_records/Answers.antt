@@ -5,7 +5,7 @@ use Rattle.lc_log.specs.LogText.{placed}
 use Rattle.lc_text.specs.Inspector.{Inspects}
 use Rattle.lc_text.specs.Text.{records_text, refusal_text}
 use Rattle.lc_record.specs.declared.record.Record.{Record}
-use Rattle.lc_core.specs.declared.show_fault.ShowFault.TheVariants.{Unknown}
+use Rattle.lc_journal.specs.declared.show_fault.ShowFault.TheVariants.{Unknown}
 use Rattle.lc_tool.proofs.Beside.{life_geometry}
 use Rattle.lc_tool.proofs.Keeping.{log_lives, log_refused, log_shown}
 use Rattle.lc_tool.proofs.LogShown.{inspect_asks, inspect_fault, inspect_had, inspect_performs}

@@ -2,7 +2,7 @@ use Rattle.std.proofs.Common.{◌≡◌, ◌-◌, ◌≤◌, ℕ, List, Option, 
 use Rattle.lc_record.specs.declared.geometry.Geometry.{Geometry}
 use Rattle.lc_model.specs.State.{Setting, State}
 use Rattle.lc_core.specs.Lives.{FitsLife, Life}
-use Rattle.lc_core.specs.Numbers.{Numbers}
+use Rattle.lc_settled.specs.Numbers.{Numbers}
 use Rattle.lc_core.specs.World.{FitsWorld}
 use Rattle.lc_tool.specs.Coming.{lines_left}
 use Rattle.lc_tool.specs.Following.{lines_followed, lines_within}

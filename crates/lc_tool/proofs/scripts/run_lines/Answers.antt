@@ -1,7 +1,7 @@
 use Rattle.std.proofs.Common.{◌≡◌, ℕ, ◌+◌, ◌||◌, ◌==◌, Bool, true, false, List, [], ◌∷◌, ◌++◌, length, Option, refl, sym, arith, eqb-true}
 use Rattle.lc_model.specs.State.{State}
 use Rattle.lc_core.specs.Lives.{Life}
-use Rattle.lc_core.specs.Numbers.{Numbers}
+use Rattle.lc_settled.specs.Numbers.{Numbers}
 use Rattle.lc_text.specs.Lines.{script_lines}
 use Rattle.lc_tool.specs.Outcome.{fronted}
 use Rattle.lc_tool.specs.Script.{Runs, front_of}

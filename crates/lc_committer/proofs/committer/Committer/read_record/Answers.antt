@@ -2,8 +2,8 @@ use Rattle.std.proofs.Common.{rules, ◌≡◌, ℕ, List, length, sym, ap, subs
 use Rattle.std.specs.Global.{Vec}
 use Rattle.lc_stage.specs.Seats.{commit_view}
 use Rattle.lc_stage.specs.declared.stage_view.StageView.{StageView}
-use Rattle.lc_node.specs.Among.{IsAmong}
-use Rattle.lc_node.specs.LogView.{LogView}
+use Rattle.lc_log_side.specs.Among.{IsAmong}
+use Rattle.lc_log_side.specs.LogView.{LogView}
 use Rattle.lc_node.specs.declared.node.Node.{Node}
 use Rattle.lc_committer.specs.Records.{ReadsIn}
 use Rattle.lc_committer.proofs.ReadBack.{apart, copied}

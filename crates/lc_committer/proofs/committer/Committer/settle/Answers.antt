@@ -2,7 +2,7 @@ use Rattle.std.proofs.Common.{rules, ◌≡◌, subst, ◌∙◌}
 use Rattle.std.specs.Prelude.{IfErr}
 use Rattle.lc_stage.specs.Seats.{commit_view}
 use Rattle.lc_stage.specs.declared.stage_view.StageView.{StageView}
-use Rattle.lc_node.specs.Receipts.{IsOfDevice, Learns, Receives}
+use Rattle.lc_log_side.specs.Receipts.{IsOfDevice, Learns, Receives}
 use Rattle.lc_committer.proofs.Keeping.{settling}
 use Rattle.lc_committer.proofs.committer.Committer.settle.Goals as goal
 

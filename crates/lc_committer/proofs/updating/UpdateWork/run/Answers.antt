@@ -3,8 +3,8 @@ use Rattle.std.specs.Prelude.{OnErr}
 use Rattle.std.proofs.lemmas.List.{length-take-le, length-drop, take_at}
 use Rattle.lc_tx.specs.Images.{bytes_of}
 use Rattle.lc_tx.specs.declared.tx.Tx.{Tx}
-use Rattle.lc_node.proofs.PutBytes.{agree}
-use Rattle.lc_node.proofs.WorkSteps.{works_nothing, works_range, works_then, works_tried}
+use Rattle.lc_segments.proofs.PutBytes.{agree}
+use Rattle.lc_segments.proofs.WorkSteps.{works_nothing, works_range, works_then, works_tried}
 use Rattle.lc_committer.specs.Update.{Updates}
 use Rattle.lc_committer.proofs.Updated.{fits_once, leaves, unset}
 use Rattle.lc_committer.proofs.updating.UpdateWork.run.Goals as goal

@@ -5,10 +5,11 @@ use Rattle.lc_record.specs.declared.geometry.Geometry.{Geometry}
 use Rattle.lc_token.specs.declared.token.Token.{Token}
 use Rattle.lc_core.specs.Cluster.{knowns_of}
 use Rattle.lc_core.specs.Made.{AreSegments}
-use Rattle.lc_core.specs.Pieces.{AreNodePieces, AreTokens}
-use Rattle.lc_core.specs.Readings.{FailsIn, PassesIn}
-use Rattle.lc_core.specs.declared.node_images.NodeImages.{NodeImages}
-use Rattle.lc_core.specs.declared.node_piece.NodePiece.{NodePiece}
+use Rattle.lc_core.specs.Pieces.{AreNodePieces}
+use Rattle.lc_desk.specs.Pieces.{AreTokens}
+use Rattle.lc_reading.specs.Readings.{FailsIn, PassesIn}
+use Rattle.lc_reading.specs.declared.node_images.NodeImages.{NodeImages}
+use Rattle.lc_journal.specs.declared.node_piece.NodePiece.{NodePiece}
 use Rattle.lc_core.proofs.ClusterReads.{tokens_stand}
 use Rattle.lc_core.proofs.SameFaults.{same_fault}
 use Rattle.lc_core.proofs.read_cluster.ReadCluster.build.Goals as goal

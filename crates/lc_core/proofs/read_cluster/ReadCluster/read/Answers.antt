@@ -4,13 +4,13 @@ use Rattle.std.specs.Global.{Vec}
 use Rattle.std.proofs.lemmas.List.{length-map}
 use Rattle.lc_record.proofs.ListLemmas.{slice_get_from_map as mapped_at}
 use Rattle.lc_core.specs.Made.{AreSegments}
-use Rattle.lc_core.specs.Pictures.{AreImages}
+use Rattle.lc_reading.specs.Pictures.{AreImages}
 use Rattle.lc_core.specs.Pieces.{AreNodePieces}
-use Rattle.lc_core.specs.ReadAreas.{AreAreas, AreStarts}
-use Rattle.lc_core.specs.ReadNodes.{AreReadNodes}
+use Rattle.lc_reading.specs.ReadAreas.{AreAreas, AreStarts}
+use Rattle.lc_reading.specs.ReadNodes.{AreReadNodes}
 use Rattle.lc_rest.specs.declared.segment_part.SegmentPart.{SegmentPart}
 use Rattle.lc_core.proofs.ClusterReads.{count_held, count_news, held_areas, images_there, news_long, pieces_fit, read_at}
-use Rattle.lc_core.proofs.Furnishing.{all_back}
+use Rattle.lc_desk.proofs.Furnishing.{all_back}
 use Rattle.lc_core.proofs.SameFaults.{same_fault}
 use Rattle.lc_core.proofs.read_cluster.ReadCluster.read.Goals as goal
 

@@ -2,8 +2,9 @@ use Rattle.std.proofs.Common.{◌≡◌, ◌-◌, ℕ, None, Some, true, List, l
 use Rattle.std.specs.Prelude.{slice_get, Option}
 use Rattle.std.proofs.lemmas.Bool.{ltb-true}
 use Rattle.std.proofs.lemmas.Option.{slice_get_past, slice_get_read}
-use Rattle.lc_core.specs.Truncating.{HasOpenOn, newer_at, newer_in, under_way_in}
-use Rattle.lc_core.specs.declared.node_state.NodeState.{NodeState}
+use Rattle.lc_core.specs.Truncating.{HasOpenOn, newer_at, under_way_in}
+use Rattle.lc_events.specs.Truncating.{newer_in}
+use Rattle.lc_events.specs.declared.node_state.NodeState.{NodeState}
 use Rattle.lc_core.proofs.up.Up.is_blocked.Goals as goal
 
 pub returns-then-is_newer : goal.returns-then-is_newer

@@ -2,8 +2,9 @@ use Rattle.std.proofs.Common.{◌≡◌, ◌-◌, None, Some, List, length, refl
 use Rattle.std.specs.Prelude.{slice_get, Option}
 use Rattle.std.proofs.lemmas.Bool.{ltb-true}
 use Rattle.std.proofs.lemmas.Option.{slice_get_past, slice_get_read}
-use Rattle.lc_core.specs.Truncating.{begun_in, due_at, due_in}
-use Rattle.lc_core.specs.declared.node_state.NodeState.{NodeState}
+use Rattle.lc_core.specs.Truncating.{begun_in, due_at}
+use Rattle.lc_events.specs.Truncating.{due_in}
+use Rattle.lc_events.specs.declared.node_state.NodeState.{NodeState}
 use Rattle.lc_core.proofs.up.Up.is_due.Goals as goal
 
 pub returns-in-Some : goal.returns-in-Some

@@ -3,13 +3,13 @@ use Rattle.std.proofs.lemmas.Option.{slice_get_read}
 use Rattle.lc_model.specs.declared.event.Event.TheVariants.{PageStep}
 use Rattle.lc_core.proofs.Devices.{up_whole}
 use Rattle.lc_core.proofs.Failures.{no_faults}
-use Rattle.lc_core.proofs.Geometries.{refuses_known}
+use Rattle.lc_events.proofs.Geometries.{refuses_known}
 use Rattle.lc_core.specs.Calls.{CallsWhere}
 use Rattle.lc_core.proofs.CallsTold.{as_long}
 use Rattle.lc_core.proofs.OneArea.{page_calls}
-use Rattle.lc_core.proofs.Paged.{page_known}
+use Rattle.lc_events.proofs.Paged.{page_known}
 use Rattle.lc_core.proofs.UpPages.{lengths_set, page_counts, page_follows_up, page_refused_up, pages_set, same_devices}
-use Rattle.lc_core.proofs.Names.{common_may, common_quiet}
+use Rattle.lc_events.proofs.Names.{common_may, common_quiet}
 use Rattle.lc_core.proofs.up.Up.page_step.Goals as goal
 
 pub returns-in-Some-clause-follows : goal.returns-in-Some-clause-follows

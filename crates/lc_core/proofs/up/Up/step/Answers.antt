@@ -4,10 +4,11 @@ use Rattle.lc_model.specs.declared.event.Event.{Event}
 use Rattle.lc_core.specs.Calls.{CallsArea}
 use Rattle.lc_core.specs.declared.world_phase.WorldPhase.TheVariants.{Up}
 use Rattle.lc_core.proofs.Failures.{up_counts, up_still_failed}
-use Rattle.lc_core.proofs.Logged.{err_then}
+use Rattle.lc_journal.proofs.Logged.{err_then}
 use Rattle.lc_core.proofs.Recoveries.{runs_up}
 use Rattle.lc_core.proofs.Devices.{steps_devices, up_whole}
-use Rattle.lc_core.proofs.Refusing.{if_ok_both, on_err_both}
+use Rattle.lc_events.proofs.Refusing.{if_ok_both}
+use Rattle.lc_core.proofs.Refusing.{on_err_both}
 use Rattle.lc_core.proofs.OneArea.{step_calls, step_keeps}
 use Rattle.lc_core.proofs.Ordinary.{plain_of}
 use Rattle.lc_core.proofs.up.Up.step.Goals as goal

@@ -1,7 +1,7 @@
 use Rattle.std.proofs.Common.{Err, refl}
 use Rattle.lc_model.specs.declared.event.Event.TheVariants.{Reserve}
 use Rattle.lc_model.specs.declared.refusal.Refusal.TheVariants.{Down as IsDown}
-use Rattle.lc_core.specs.declared.call_fault.CallFault.TheVariants.{Refused as IsRefused}
+use Rattle.lc_events.specs.declared.call_fault.CallFault.TheVariants.{Refused as IsRefused}
 use Rattle.lc_core.proofs.EndCalls.{world_ends}
 use Rattle.lc_core.proofs.Layering.{steps_down}
 use Rattle.lc_core.proofs.world.World.end.Goals as goal

@@ -3,10 +3,10 @@ use Rattle.std.proofs.lemmas.Result.{err_from_is_err_and}
 use Rattle.lc_model.specs.declared.event.Event.TheVariants.{FlushStep}
 use Rattle.lc_model.specs.declared.refusal.Refusal.{Refusal}
 use Rattle.lc_model.specs.declared.reply.Reply.TheVariants.{Refused}
-use Rattle.lc_core.specs.Answered.{flushed}
+use Rattle.lc_events.specs.Answered.{flushed}
 use Rattle.lc_core.specs.Truncating.{Repeats, StepsTo, ending}
-use Rattle.lc_core.specs.declared.flush_progress.FlushProgress.{FlushProgress}
-use Rattle.lc_core.specs.declared.flush_progress.FlushProgress.TheVariants.{Stepped as HasFlushed, Acked as HasAcked, Nothing as NoneToFlush}
+use Rattle.lc_events.specs.declared.flush_progress.FlushProgress.{FlushProgress}
+use Rattle.lc_events.specs.declared.flush_progress.FlushProgress.TheVariants.{Stepped as HasFlushed, Acked as HasAcked, Nothing as NoneToFlush}
 use Rattle.lc_core.proofs.Truncations.{ends_here, goes_on, last_call}
 use Rattle.lc_core.proofs.world.World.flush.Goals as goal
 

@@ -3,7 +3,7 @@ use Rattle.std.proofs.lemmas.Result.{err_from_is_err_and}
 use Rattle.lc_record.specs.Words.{words_of}
 use Rattle.lc_core.proofs.LogReads.{front_shown, handed_failed, handed_on, show_records}
 use Rattle.lc_core.specs.LogWords.{ReadsLog}
-use Rattle.lc_core.specs.declared.show_fault.ShowFault.TheVariants.{Unknown}
+use Rattle.lc_journal.specs.declared.show_fault.ShowFault.TheVariants.{Unknown}
 use Rattle.lc_core.proofs.world.World.log_words.Goals as goal
 
 pub returns-in_err-bytes-clause-unknown : goal.returns-in_err-bytes-clause-unknown

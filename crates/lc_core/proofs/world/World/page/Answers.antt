@@ -3,7 +3,8 @@ use Rattle.std.proofs.lemmas.Option.{slice_get_read}
 use Rattle.lc_record.specs.declared.geometry.Geometry.{Geometry}
 use Rattle.lc_core.proofs.Shown.{page_known, slot_shows}
 use Rattle.lc_core.specs.Lives.{FitsLife, Life}
-use Rattle.lc_core.specs.Showing.{LendsPage, image_of, page_of}
+use Rattle.lc_core.specs.Showing.{LendsPage, image_of}
+use Rattle.lc_desk.specs.Showing.{page_of}
 use Rattle.lc_core.specs.World.{FitsPhase}
 use Rattle.lc_core.proofs.world.World.page.Goals as goal
 

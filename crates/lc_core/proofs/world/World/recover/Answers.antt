@@ -2,8 +2,8 @@ use Rattle.std.proofs.Common.{◌≡◌, ◌∙◌, Err, sym, ap, subst, arith}
 use Rattle.std.proofs.lemmas.Result.{err_from_is_err_and}
 use Rattle.lc_record.proofs.ListLemmas.{OnErr_from as on_err}
 use Rattle.lc_core.specs.ComingUp.{RecoversTo}
-use Rattle.lc_core.specs.declared.call_fault.CallFault.{CallFault}
-use Rattle.lc_core.specs.declared.call_fault.CallFault.TheVariants.{NoMemory}
+use Rattle.lc_events.specs.declared.call_fault.CallFault.{CallFault}
+use Rattle.lc_events.specs.declared.call_fault.CallFault.TheVariants.{NoMemory}
 use Rattle.lc_core.proofs.ComingUp.{Came, came_up, less_left, newborn, no_step, one_more, one_step, was_refused, wanted}
 use Rattle.lc_core.proofs.world.World.recover.Goals as goal
 

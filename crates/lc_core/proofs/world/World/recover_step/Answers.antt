@@ -6,9 +6,9 @@ use Rattle.lc_record.proofs.ListLemmas.{OnErr_from as on_err}
 use Rattle.lc_recover.specs.Recovery.{Recovering, IsLast, TakesMemory, all_steps}
 use Rattle.lc_core.specs.declared.world_phase.WorldPhase.TheVariants.{Down, Taken, Up}
 use Rattle.lc_core.proofs.Living.{down_told, turn_told}
-use Rattle.lc_core.proofs.Refusing.{if_ok_both}
+use Rattle.lc_events.proofs.Refusing.{if_ok_both}
 use Rattle.lc_recover.specs.declared.fault.RecoverFault.{RecoverFault}
-use Rattle.lc_core.proofs.Logged.{err_then}
+use Rattle.lc_journal.proofs.Logged.{err_then}
 use Rattle.lc_core.specs.Recovering.{RepliesTo}
 use Rattle.lc_core.specs.World.{AsksIn}
 use Rattle.lc_core.specs.declared.world_phase.WorldPhase.{WorldPhase}
@@ -24,7 +24,8 @@ use Rattle.lc_core.proofs.Geometries.{down_geometry, replies_known, risen_geomet
 use Rattle.lc_core.proofs.OneArea.{calls_none, down_calls, down_keeps, risen_calls}
 use Rattle.lc_core.proofs.Recoveries.{FollowsPhase, StepLeaves, begins_in, comes_up, down_same, not_recovered, not_down, down_follows, down_wants, same_still}
 use Rattle.lc_core.specs.Recovers.{RecoversDown}
-use Rattle.lc_core.proofs.Recovers.{IfOk-any, StepSays, last_apart, down_asks, down_recovers, risen_recovers, up_refuses}
+use Rattle.lc_events.proofs.Recovers.{IfOk-any}
+use Rattle.lc_core.proofs.Recovers.{StepSays, last_apart, down_asks, down_recovers, risen_recovers, up_refuses}
 use Rattle.lc_core.proofs.world.World.recover_step.Given.{Over}
 use Rattle.lc_core.proofs.world.World.recover_step.Goals.{After-step-2}
 use Rattle.lc_core.proofs.world.World.recover_step.Goals as goal

@@ -12,19 +12,22 @@ use Rattle.lc_core.specs.Faults.{CountsPhase, phase_failures}
 use Rattle.lc_core.specs.declared.world_phase.WorldPhase.{WorldPhase}
 use Rattle.lc_core.proofs.Asking.{asks_world}
 use Rattle.lc_core.proofs.Geometries.{down_outside, recovers_outside, stops_outside, up_geometry, up_outside}
-use Rattle.lc_core.proofs.Logged.{err_then}
+use Rattle.lc_journal.proofs.Logged.{err_then}
 use Rattle.lc_core.proofs.OneArea.{calls_none, up_calls, up_keeps}
-use Rattle.lc_core.proofs.Recovers.{IfOk-any, down_refuses, stop_asks, up_asks}
+use Rattle.lc_events.proofs.Recovers.{IfOk-any}
+use Rattle.lc_core.proofs.Recovers.{down_refuses, stop_asks, up_asks}
 use Rattle.lc_core.specs.declared.world_phase.WorldPhase.TheVariants.{Up}
 use Rattle.lc_core.proofs.Recoveries.{else_works, up_follows, up_still}
 use Rattle.lc_core.proofs.Living.{others_told, same_still_lives, up_still_lives, up_told}
 use Rattle.lc_core.proofs.CallsTold.{refused_free}
-use Rattle.lc_core.proofs.Refusing.{if_ok_both, on_err_both}
+use Rattle.lc_events.proofs.Refusing.{if_ok_both}
+use Rattle.lc_core.proofs.Refusing.{on_err_both}
 use Rattle.lc_core.proofs.StaysHonest.{keeps_honest, stays_honest}
 use Rattle.lc_core.proofs.Stopped.{same_stop}
 use Rattle.lc_core.specs.Stops.{IsLeftBy}
-use Rattle.lc_core.proofs.Names.{answers_may, common_may, works_acts}
-use Rattle.lc_core.specs.MayReply.{may_answer, may_stop}
+use Rattle.lc_events.proofs.Names.{answers_may, common_may}
+use Rattle.lc_core.proofs.Names.{works_acts}
+use Rattle.lc_events.specs.MayReply.{may_answer, may_stop}
 use Rattle.lc_core.proofs.world.World.step.Goals as goal
 
 pub step-requires : goal.step-requires

@@ -1,11 +1,13 @@
 use Rattle.std.proofs.Common.{◌≡◌, ◌+◌, ◌<◌, None, Some, refl, sym, ap, subst, arith}
 use Rattle.lc_model.specs.declared.event.Event.{Event}
 use Rattle.lc_model.specs.declared.event.Event.TheVariants.{PageStep, ResetStep}
-use Rattle.lc_core.specs.Truncating.{Repeats, StepsTo, refusal_in}
+use Rattle.lc_core.specs.Truncating.{Repeats, StepsTo}
+use Rattle.lc_events.specs.Truncating.{refusal_in}
 use Rattle.lc_core.specs.Truncation.{IsFewer, IsOf, Leads, ThenResets, WritesIf, steps_if, steps_in}
 use Rattle.lc_core.specs.declared.truncation_stage.TruncationStage.TheVariants.{Writes}
 use Rattle.lc_core.specs.declared.truncation_step.TruncationStep.TheVariants.{Continues}
-use Rattle.lc_core.proofs.Truncations.{leads_more, not_refused, one_refused, written_on}
+use Rattle.lc_core.proofs.Truncations.{leads_more, one_refused, written_on}
+use Rattle.lc_events.proofs.Truncations.{not_refused}
 use Rattle.lc_core.proofs.world.World.write_on.Goals as goal
 
 pub returns-in_default-clause-remains : goal.returns-in_default-clause-remains

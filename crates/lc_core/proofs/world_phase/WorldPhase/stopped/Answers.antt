@@ -4,7 +4,7 @@ use Rattle.lc_recover.specs.Recovery.{begun}
 use Rattle.lc_core.specs.Areas.{AreStopped}
 use Rattle.lc_core.specs.Stops.{AreLeftBy}
 use Rattle.lc_core.specs.declared.world_phase.WorldPhase.TheVariants.{Down}
-use Rattle.lc_core.proofs.Furnishing.{all_back}
+use Rattle.lc_desk.proofs.Furnishing.{all_back}
 use Rattle.lc_core.proofs.ImagesFit.{stopped_lengths}
 use Rattle.lc_core.proofs.Stopped.{by_stops, left_so}
 use Rattle.lc_core.proofs.world_phase.WorldPhase.stopped.Goals as goal

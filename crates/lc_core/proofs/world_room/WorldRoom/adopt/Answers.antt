@@ -3,13 +3,14 @@ use Rattle.std.specs.Prelude.{slice_get}
 use Rattle.std.specs.Option.{ForSome}
 use Rattle.std.proofs.lemmas.List.{length-map, length-replicate}
 use Rattle.lc_record.specs.declared.geometry.Geometry.{Geometry}
-use Rattle.lc_core.specs.Blank.{IsBlankNode}
-use Rattle.lc_core.specs.Pieces.{AreNodePieces, IsTokenOf}
-use Rattle.lc_core.specs.declared.page_state.PageState.TheVariants.{AtRest}
-use Rattle.lc_core.specs.declared.pages.Pages.{Pages}
+use Rattle.lc_events.specs.Blank.{IsBlankNode}
+use Rattle.lc_core.specs.Pieces.{AreNodePieces}
+use Rattle.lc_desk.specs.Pieces.{IsTokenOf}
+use Rattle.lc_desk.specs.declared.page_state.PageState.TheVariants.{AtRest}
+use Rattle.lc_desk.specs.declared.pages.Pages.{Pages}
 use Rattle.lc_core.proofs.Adoptions.{made_adopted}
 use Rattle.lc_core.proofs.Devices.{rests_have}
-use Rattle.lc_core.proofs.Furnishing.{all_back}
+use Rattle.lc_desk.proofs.Furnishing.{all_back}
 use Rattle.lc_core.proofs.PageWrites.{named_rest, rests_all}
 use Rattle.lc_core.proofs.Pieces.{areas_have, left_back, made_back, made_logs, made_whole, tokens_left_by}
 use Rattle.lc_core.proofs.world_room.WorldRoom.adopt.Goals as goal

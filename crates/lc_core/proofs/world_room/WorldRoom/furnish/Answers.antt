@@ -3,16 +3,17 @@ use Rattle.std.specs.Prelude.{slice_get}
 use Rattle.std.proofs.lemmas.List.{length-map, length-replicate}
 use Rattle.lc_record.specs.declared.geometry.Geometry.{Geometry}
 use Rattle.lc_record.proofs.ListLemmas.{slice_get-drop as at_drop}
-use Rattle.lc_core.specs.Blank.{IsBlankNode, IsFilledNode}
+use Rattle.lc_events.specs.Blank.{IsBlankNode, IsFilledNode}
 use Rattle.lc_recover.specs.Reads.{HaveLengths}
 use Rattle.lc_recover.proofs.Images.{count-areas}
 use Rattle.lc_core.specs.Devices.{HaveSegments}
-use Rattle.lc_core.specs.Log.{area_of}
-use Rattle.lc_core.specs.declared.pages.Pages.{Pages}
+use Rattle.lc_journal.specs.Log.{area_of}
+use Rattle.lc_desk.specs.declared.pages.Pages.{Pages}
 use Rattle.lc_core.proofs.Devices.{each_have, rests_have, segments_have}
 use Rattle.lc_core.specs.PageState.{AreAtRest}
-use Rattle.lc_core.proofs.Furnishing.{all_back, each_same, named_none}
-use Rattle.lc_core.specs.declared.page_state.PageState.TheVariants.{AtRest}
+use Rattle.lc_desk.proofs.Furnishing.{all_back, each_same}
+use Rattle.lc_core.proofs.Furnishing.{named_none}
+use Rattle.lc_desk.specs.declared.page_state.PageState.TheVariants.{AtRest}
 use Rattle.lc_core.proofs.Opening.{filled_fresh, filled_whole, segment_len, segments_left}
 use Rattle.lc_core.proofs.PageWrites.{named_rest, rests_all}
 use Rattle.lc_core.proofs.world_room.WorldRoom.furnish.Goals as goal

@@ -3,12 +3,12 @@ use Rattle.std.specs.Prelude.{IfSome}
 use Rattle.lc_tx.specs.Images.{bytes_of}
 use Rattle.lc_tx.specs.Tx.{RunsOn}
 use Rattle.lc_tx.specs.declared.tx.Tx.{Tx}
-use Rattle.lc_node.specs.Put.{IsUnput}
-use Rattle.lc_node.specs.Ran.{Bytes}
-use Rattle.lc_node.specs.Works.{Works}
-use Rattle.lc_node.specs.declared.put.Put.{Put}
-use Rattle.lc_node.proofs.PutBytes.{agree}
-use Rattle.lc_node.proofs.WorkSteps.{works_nothing, works_then}
+use Rattle.lc_segments.specs.Put.{IsUnput}
+use Rattle.lc_segments.specs.Ran.{Bytes}
+use Rattle.lc_segments.specs.Works.{Works}
+use Rattle.lc_segments.specs.declared.put.Put.{Put}
+use Rattle.lc_segments.proofs.PutBytes.{agree}
+use Rattle.lc_segments.proofs.WorkSteps.{works_nothing, works_then}
 use Rattle.lc_names.specs.Answers.{Alters, Answers, EntryChange, Decides, IsOfEntry, WantsMemory, left_by}
 use Rattle.lc_names.specs.declared.name_answer.NameAnswer.{NameAnswer}
 use Rattle.lc_names.specs.declared.name_answer.NameAnswer.TheVariants.{Done}

@@ -3,7 +3,7 @@ use Rattle.std.specs.Prelude.{◌⊎◌, IfErr}
 use Rattle.lc_stage.specs.Seats.{commit_view}
 use Rattle.lc_node.specs.Commits.{IsUnbegunOn, IsUncommitted, bytes_at, segments_in}
 use Rattle.lc_node.specs.Halting.{IsHalted}
-use Rattle.lc_node.specs.declared.held.HeldSide.{HeldSide}
+use Rattle.lc_segments.specs.declared.held.HeldSide.{HeldSide}
 use Rattle.lc_node.proofs.held.Held.commit.Goals as goal
 
 pub returns-clause-why : goal.returns-clause-why

@@ -1,14 +1,14 @@
 use Rattle.std.proofs.Common.{sym, ap, ◌∙◌, arith}
 use Rattle.std.proofs.lemmas.Option.{slice_get_within}
-use Rattle.lc_node.specs.Each.{Each}
+use Rattle.lc_segments.specs.Each.{Each}
 use Rattle.lc_node.specs.Sides.{IsFoldedSide}
-use Rattle.lc_node.specs.Truncates.{IsSameHeld}
-use Rattle.lc_node.specs.declared.held.HeldSide.{HeldSide}
-use Rattle.lc_node.proofs.Forwards.{next}
+use Rattle.lc_log_side.specs.Truncates.{IsSameHeld}
+use Rattle.lc_segments.specs.declared.held.HeldSide.{HeldSide}
+use Rattle.lc_log_side.proofs.Forwards.{next}
 use Rattle.lc_node.proofs.PagesWritten.{still_held}
-use Rattle.lc_node.proofs.Slots.{each_map}
-use Rattle.lc_node.specs.SegView.{SegView}
-use Rattle.lc_node.proofs.BoxedSides.{at_place}
+use Rattle.lc_segments.proofs.Slots.{each_map}
+use Rattle.lc_segments.specs.SegView.{SegView}
+use Rattle.lc_log_side.proofs.BoxedSides.{at_place}
 use Rattle.lc_node.proofs.held.Held.fold.Goals as goal
 
 pub loop-place-preserved : goal.loop-place-preserved

@@ -1,5 +1,5 @@
 use Rattle.lc_node.specs.Sides.{IsFoldedSide}
-use Rattle.lc_node.proofs.Forwards.{Forwards}
+use Rattle.lc_log_side.proofs.Forwards.{Forwards}
 use Rattle.lc_node.proofs.held.Held.fold.Given as goal
 
 abbrev pub invariant-loop-place : goal.invariant-loop-place

@@ -5,10 +5,11 @@ use Rattle.lc_lock.specs.declared.ticket_lock.TicketLock.{TicketLock}
 use Rattle.lc_rest.specs.declared.cluster_part.ClusterPart.TheVariants.{Log}
 use Rattle.lc_record.proofs.ListLemmas.{left_first as next_is, left_more}
 use Rattle.lc_node.specs.LeftBy.{StoodBehind}
-use Rattle.lc_node.specs.SegView.{SegView}
-use Rattle.lc_node.specs.declared.node_fault.NodeFault.TheVariants.{Mismatch, NoMemory}
+use Rattle.lc_segments.specs.SegView.{SegView}
+use Rattle.lc_segments.specs.declared.node_fault.NodeFault.TheVariants.{Mismatch, NoMemory}
 use Rattle.lc_node.proofs.LeftSegments.{none_behind, one_behind}
-use Rattle.lc_node.proofs.Refused.{handed_on, of_segment}
+use Rattle.lc_log_side.proofs.Refused.{handed_on}
+use Rattle.lc_node.proofs.Refused.{of_segment}
 use Rattle.lc_node.proofs.leaving_segments.SegmentImages.take.Goals as goal
 
 pub returns-in_err-image-clause-refused : goal.returns-in_err-image-clause-refused

@@ -1,5 +1,6 @@
 use Rattle.std.proofs.Common.{◌≡◌, ◌+◌, ◌≤◌, All, drop, take, vec_len, vec_capacity}
-use Rattle.lc_node.specs.LeftBy.{IsSettledPart, StoodBehind}
+use Rattle.lc_segments.specs.LeftBy.{IsSettledPart}
+use Rattle.lc_node.specs.LeftBy.{StoodBehind}
 use Rattle.lc_node.proofs.leaving_segments.SegmentImages.take.Given as goal
 
 abbrev pub invariant-loop : goal.invariant-loop

@@ -8,10 +8,10 @@ use Rattle.lc_trunc.specs.Reset.{AreKnown}
 use Rattle.lc_ended.specs.Ended.{EndedWords}
 use Rattle.lc_ended.specs.Left.{IsLeft}
 use Rattle.lc_ended.proofs.Leaving.{left-none}
-use Rattle.lc_node.specs.Published.{records_of}
+use Rattle.lc_log_side.specs.Published.{records_of}
 use Rattle.lc_node.proofs.Knowing.{none_ended}
 use Rattle.lc_node.proofs.Published.{none_counted}
-use Rattle.lc_node.proofs.Rounds.{no_records}
+use Rattle.lc_log_side.proofs.Rounds.{no_records}
 use Rattle.lc_node.proofs.log_room.LogRoom.open.Goals as goal
 
 pub invariant_of-fill : goal.invariant_of-fill

@@ -1,7 +1,7 @@
 use Rattle.std.proofs.Common.{◌≡◌, true, false, sym, ap, subst, ◌∙◌}
 use Rattle.std.specs.Prelude.{Bool, Err, IsSome, Ok, Result}
-use Rattle.lc_node.specs.Journey.{Journey}
-use Rattle.lc_node.specs.SegView.{SegView}
+use Rattle.lc_segments.specs.Journey.{Journey}
+use Rattle.lc_segments.specs.SegView.{SegView}
 use Rattle.lc_node.proofs.MessagesAnswered.{journey_answered}
 use Rattle.lc_node.proofs.node.Node.admit.Goals as goal
 

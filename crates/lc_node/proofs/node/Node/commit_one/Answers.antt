@@ -3,8 +3,8 @@ use Rattle.lc_stage.specs.Seats.{commit_view}
 use Rattle.lc_tx.specs.Tx.{IsSetOf}
 use Rattle.lc_node.specs.Commits.{segments_in}
 use Rattle.lc_node.specs.Held.{HasSegment, IsHeldOf}
-use Rattle.lc_node.specs.declared.held.HeldSide.{HeldSide}
-use Rattle.lc_node.proofs.Knowing.{all_alone}
+use Rattle.lc_segments.specs.declared.held.HeldSide.{HeldSide}
+use Rattle.lc_log_side.proofs.Knowing.{all_alone}
 use Rattle.lc_node.proofs.LockedCommit.{commits_among, first_of_one}
 use Rattle.lc_node.proofs.SegmentLocks.{held_lock, held_now}
 use Rattle.lc_node.proofs.node.Node.commit_one.Goals as goal

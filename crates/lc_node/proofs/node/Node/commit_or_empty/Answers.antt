@@ -1,4 +1,4 @@
-use Rattle.std.proofs.Common.{rules, ◌≡◌, ap, inl, inr, ◌∙◌}
+use Rattle.std.proofs.Common.{rules, inr, ◌∙◌}
 use Rattle.lc_stage.specs.Seats.{commit_view}
 use Rattle.lc_node.specs.MakingRoom.{IsFull}
 use Rattle.lc_node.proofs.MadeRoom.{still_ascend}

@@ -3,7 +3,7 @@ use Rattle.lc_tx.specs.Tx.{IsSetOf}
 use Rattle.lc_node.specs.Held.{IsFirstOutside}
 use Rattle.lc_node.specs.Pumping.{IsOfRecord}
 use Rattle.lc_node.specs.Reached.{AnswersWords, locked_in}
-use Rattle.lc_node.specs.declared.node_fault.NodeFault.{NodeFault}
+use Rattle.lc_segments.specs.declared.node_fault.NodeFault.{NodeFault}
 use Rattle.lc_node.proofs.MessagesAnswered.{no_side, record_unheld}
 use Rattle.lc_node.proofs.MessagesGone.{of_record}
 use Rattle.lc_node.proofs.node.Node.deliver.Goals as goal

@@ -1,5 +1,5 @@
 use Rattle.lc_stage.specs.Seats.{commit_view}
-use Rattle.lc_node.specs.Settling.{published_end}
+use Rattle.lc_log_side.specs.Settling.{published_end}
 use Rattle.lc_node.proofs.Settled.{looks_of}
 use Rattle.lc_node.proofs.node.Node.durable_in.Goals as goal
 

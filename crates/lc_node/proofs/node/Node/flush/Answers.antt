@@ -1,9 +1,10 @@
 use Rattle.std.proofs.Common.{rules}
 use Rattle.std.specs.Prelude.{IfOk, Ok, Err}
 use Rattle.std.proofs.lemmas.Result.{IfErr-weaker as if_err}
-use Rattle.lc_node.specs.Flushes.{Flushes, HasFlushed, HasNotFlushed, IsUnflushed}
+use Rattle.lc_log_side.specs.Flushes.{Flushes, IsUnflushed}
+use Rattle.lc_node.specs.Flushes.{HasFlushed, HasNotFlushed}
 use Rattle.lc_node.specs.Logs.{IsLogOf}
-use Rattle.lc_node.specs.Published.{Publishes}
+use Rattle.lc_log_side.specs.Published.{Publishes}
 use Rattle.lc_node.proofs.node.Node.flush.Goals as goal
 
 pub returns-clause-flushed : goal.returns-clause-flushed

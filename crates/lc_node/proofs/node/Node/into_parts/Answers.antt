@@ -3,7 +3,8 @@ use Rattle.std.specs.Prelude.{slice_get}
 use Rattle.std.proofs.lemmas.List.Elements.{All-push}
 use Rattle.std.proofs.lemmas.Option.{same_Some as some_same}
 use Rattle.lc_rest.specs.declared.node_part.NodePart.{NodePart as ThePart}
-use Rattle.lc_node.specs.LeftBy.{AreReceived, IsLeftNode}
+use Rattle.lc_log_side.specs.LeftBy.{AreReceived}
+use Rattle.lc_node.specs.LeftBy.{IsLeftNode}
 use Rattle.lc_node.proofs.LeftParts.{all_kept}
 use Rattle.lc_node.proofs.node.Node.into_parts.Goals as goal
 

@@ -1,10 +1,10 @@
 use Rattle.std.proofs.Common.{rules, ◌≡◌, false}
 use Rattle.std.specs.Prelude.{OnOk, Ok, Err}
 use Rattle.std.proofs.lemmas.Result.{IfErr-weaker as if_err}
-use Rattle.lc_node.specs.Halting.{IsUntruncatable}
-use Rattle.lc_node.specs.LogView.{LogView}
+use Rattle.lc_log_side.specs.Halting.{IsUntruncatable}
+use Rattle.lc_log_side.specs.LogView.{LogView}
 use Rattle.lc_node.specs.Logs.{IsLogOf}
-use Rattle.lc_node.specs.Resets.{IsSpent}
+use Rattle.lc_log_side.specs.Resets.{IsSpent}
 use Rattle.lc_node.specs.Truncates.{MayTruncate}
 use Rattle.lc_node.proofs.node.Node.may_truncate.Goals as goal
 

@@ -1,6 +1,6 @@
 use Rattle.std.proofs.Common.{All, ap, subst, ◌∙◌, arith}
 use Rattle.lc_node.specs.Held.{IsHeldOf}
-use Rattle.lc_node.specs.SegView.{SegView}
+use Rattle.lc_segments.specs.SegView.{SegView}
 use Rattle.lc_node.proofs.SegmentLocks.{all_front, all_last, held_lock}
 use Rattle.lc_node.proofs.node.Node.release_silently.Goals as goal
 

@@ -1,10 +1,11 @@
 use Rattle.std.proofs.Common.{rules, ◌≡◌, false, [], Err, refl, sym, ap, subst, inl, inr}
 use Rattle.std.specs.Prelude.{◌⊎◌, IfErr}
 use Rattle.std.proofs.lemmas.Result.{IfErr-weaker as if_err, IfOk-weaker as if_ok}
-use Rattle.lc_node.specs.Ended.{LacksRoom}
-use Rattle.lc_node.specs.LogView.{LogView}
-use Rattle.lc_node.specs.Resets.{CanReset, Empties, IsSameInRoom, IsUnemptied}
-use Rattle.lc_node.specs.declared.node_fault.NodeFault.TheVariants.{NoMemory}
+use Rattle.lc_log_side.specs.Ended.{LacksRoom}
+use Rattle.lc_log_side.specs.LogView.{LogView}
+use Rattle.lc_log_side.specs.Resets.{CanReset, Empties, IsUnemptied}
+use Rattle.lc_node.specs.Resets.{IsSameInRoom}
+use Rattle.lc_segments.specs.declared.node_fault.NodeFault.TheVariants.{NoMemory}
 use Rattle.lc_node.proofs.node.Node.reset_log.Goals as goal
 
 pub returns-in_err-is_due-clause-refused : goal.returns-in_err-is_due-clause-refused

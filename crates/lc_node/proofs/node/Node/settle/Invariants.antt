@@ -1,5 +1,5 @@
 use Rattle.lc_stage.specs.Seats.{commit_view, IsSeatOf, IsIdle}
-use Rattle.lc_node.specs.Receipts.{Learns}
+use Rattle.lc_log_side.specs.Receipts.{Learns}
 use Rattle.lc_node.proofs.node.Node.settle.Given as goal
 
 abbrev pub invariant-loop : goal.invariant-loop

@@ -1,5 +1,5 @@
 use Rattle.std.proofs.Common.{◌≡◌, ap, ◌∙◌}
-use Rattle.lc_node.specs.SegView.{SegView}
+use Rattle.lc_segments.specs.SegView.{SegView}
 use Rattle.lc_node.proofs.node.Node.snapshot.Goals as goal
 
 pub returns-in-Ok-clause-copied : goal.returns-in-Ok-clause-copied

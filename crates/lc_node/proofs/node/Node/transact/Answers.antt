@@ -3,7 +3,7 @@ use Rattle.std.specs.Prelude.{IfErr, IfOk}
 use Rattle.lc_stage.specs.declared.receipt.Receipt.{Receipt}
 use Rattle.lc_stage.specs.Seats.{commit_view}
 use Rattle.lc_node.specs.Commits.{ClosesWork}
-use Rattle.lc_node.specs.Receipts.{HasReceipt, IsOfDevice, Learns, Receives}
+use Rattle.lc_log_side.specs.Receipts.{HasReceipt, IsOfDevice, Learns, Receives}
 use Rattle.lc_node.proofs.Confirms.{has_received}
 use Rattle.lc_node.proofs.node.Node.transact.Goals as goal
 

@@ -1,8 +1,9 @@
 use Rattle.std.proofs.Common.{rules, ◌≡◌, ◌⊎◌, inl, inr, ⊎_elim}
 use Rattle.std.proofs.lemmas.Result.{IfErr-weaker as if_err, IfOk-weaker as if_ok}
 use Rattle.lc_node.specs.Logs.{IsLogOf}
-use Rattle.lc_node.specs.Truncates.{IsUntruncatedHeld, IsUntruncatedInRoom, TruncatesAlone, TruncatesHeld}
-use Rattle.lc_node.specs.declared.node_fault.NodeFault.TheVariants.{NoMemory}
+use Rattle.lc_node.specs.Truncates.{IsUntruncatedHeld, TruncatesAlone, TruncatesHeld}
+use Rattle.lc_log_side.specs.Truncates.{IsUntruncatedInRoom}
+use Rattle.lc_segments.specs.declared.node_fault.NodeFault.TheVariants.{NoMemory}
 use Rattle.lc_node.proofs.node.Node.truncate_held.Goals as goal
 
 pub returns-clause-refused : goal.returns-clause-refused

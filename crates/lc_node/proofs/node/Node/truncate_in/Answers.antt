@@ -1,8 +1,8 @@
 use Rattle.std.proofs.Common.{◌≡◌, ◌⊎◌, All, inr, subst, arith}
 use Rattle.std.specs.VecDeque.{deque_capacity}
 use Rattle.std.proofs.lemmas.Result.{IfErr-weaker as if_err}
-use Rattle.lc_node.specs.Truncates.{HasPagesIn, IsUntruncatedInRoom}
-use Rattle.lc_node.specs.declared.node_fault.NodeFault.TheVariants.{NoMemory}
+use Rattle.lc_log_side.specs.Truncates.{HasPagesIn, IsUntruncatedInRoom}
+use Rattle.lc_segments.specs.declared.node_fault.NodeFault.TheVariants.{NoMemory}
 use Rattle.lc_node.proofs.MadeRoom.{same_held}
 use Rattle.lc_node.proofs.PagesWritten.{still_held, more_places}
 use Rattle.lc_node.proofs.node.Node.truncate_in.Goals as goal

@@ -4,9 +4,9 @@ use Rattle.std.proofs.lemmas.List.Elements.{All-append}
 use Rattle.lc_record.specs.Transaction.{is_member}
 use Rattle.lc_tx.specs.Tx.{IsSetOf}
 use Rattle.lc_node.specs.Held.{HasSegment, IsHeldOf}
-use Rattle.lc_node.specs.declared.held.HeldSide.{HeldSide}
+use Rattle.lc_segments.specs.declared.held.HeldSide.{HeldSide}
 use Rattle.lc_node.proofs.Asking.{asked_to, asked_more, asked_same, asked_all}
-use Rattle.lc_node.proofs.Knowing.{all_alone}
+use Rattle.lc_log_side.proofs.Knowing.{all_alone}
 use Rattle.lc_node.proofs.SegmentLocks.{held_now}
 use Rattle.lc_node.proofs.node.Node.try_hold.Goals.{then-is_asked+in-Some-try_lock, else-is_asked}
 use Rattle.lc_node.proofs.node.Node.try_hold.Goals as goal

@@ -2,8 +2,9 @@ use Rattle.std.proofs.Common.{◌≡◌, ◌⊎◌, All, inl, inr, ⊎_elim, sym
 use Rattle.std.specs.Prelude.{IfErr, IfOk}
 use Rattle.std.proofs.lemmas.Result.{IfErr-weaker as if_err, IfOk-weaker as if_ok}
 use Rattle.lc_node.specs.Held.{IsHeldOf}
-use Rattle.lc_node.specs.Truncates.{IsUntruncatedHeld, IsUntruncatedInRoom, TruncatesAlone, TruncatesHeld}
-use Rattle.lc_node.specs.declared.node_fault.NodeFault.TheVariants.{NoMemory}
+use Rattle.lc_node.specs.Truncates.{IsUntruncatedHeld, TruncatesAlone, TruncatesHeld}
+use Rattle.lc_log_side.specs.Truncates.{IsUntruncatedInRoom}
+use Rattle.lc_segments.specs.declared.node_fault.NodeFault.TheVariants.{NoMemory}
 use Rattle.lc_nonblocking.proofs.nonblocking_node.NonblockingNode.truncate_held.Goals as goal
 
 pub truncate_in-requires-clause-held : goal.truncate_in-requires-clause-held

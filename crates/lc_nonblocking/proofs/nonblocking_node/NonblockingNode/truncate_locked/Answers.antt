@@ -4,8 +4,8 @@ use Rattle.lc_record.specs.Marks.{counting}
 use Rattle.lc_tx.specs.Tx.{IsSetOf}
 use Rattle.lc_node.specs.Held.{IsHeldOf}
 use Rattle.lc_node.specs.Truncates.{AreAllOf, MayTruncate}
-use Rattle.lc_node.specs.declared.held.HeldSide.{HeldSide}
-use Rattle.lc_node.specs.declared.node_fault.NodeFault.TheVariants.{NoMemory}
+use Rattle.lc_segments.specs.declared.held.HeldSide.{HeldSide}
+use Rattle.lc_segments.specs.declared.node_fault.NodeFault.TheVariants.{NoMemory}
 use Rattle.lc_node.proofs.Outside.{none_of_first, only_memory}
 use Rattle.lc_node.proofs.PagesWritten.{of_truncation_held}
 use Rattle.lc_nonblocking.proofs.nonblocking_node.NonblockingNode.truncate_locked.Goals as goal

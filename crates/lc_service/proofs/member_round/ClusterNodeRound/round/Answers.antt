@@ -1,8 +1,8 @@
 use Rattle.std.proofs.Common.{◌≡◌, ◌∙◌, ◌≤◌, Result, sym, subst, inl, inr, arith, rules}
 use Rattle.std.proofs.Math.Nat.{eq-or-lt_of_le}
 use Rattle.std.specs.Prelude.{Err, IfErr}
-use Rattle.lc_node.specs.Calls.{PumpsAt}
-use Rattle.lc_node.specs.declared.node_fault.NodeFault.{NodeFault}
+use Rattle.lc_cluster.specs.Calls.{PumpsAt}
+use Rattle.lc_segments.specs.declared.node_fault.NodeFault.{NodeFault}
 use Rattle.lc_node.specs.declared.pumped.Pumped.{Pumped}
 use Rattle.lc_service.specs.Round.{IsUnkeptAt}
 use Rattle.lc_service.proofs.member_round.ClusterNodeRound.round.Goals as goal

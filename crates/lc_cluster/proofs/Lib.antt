@@ -1,0 +1,15 @@
+pub mod Called
+pub mod Copied
+pub mod Joined
+pub mod KeysKept
+pub mod LeastApplied
+pub mod LeftParts
+pub mod LinesClosed
+pub mod MessagesAnswered
+pub mod MessagesGone
+pub mod NextSent
+pub mod PeerPlaces
+pub mod Refused
+pub mod SentToAll
+pub mod TokenSent
+pub mod Wired

@@ -1,0 +1,17 @@
+pub mod Calls
+pub mod Cluster
+pub mod Copies
+pub mod Giving
+pub mod Joining
+pub mod LeftBy
+pub mod Messages
+pub mod Peers
+pub mod Pumping
+pub mod Reached
+pub mod Receiving
+pub mod Spread
+pub mod Tokens
+pub mod Wiring
+pub mod Keys
+pub mod Closing
+pub mod Forgetting

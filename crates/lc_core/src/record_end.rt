@@ -1,8 +1,0 @@
-//! Where the words of a record end.
-
-/// The end of a record's words among those of all, and whether the record is closed.
-#[derive(Clone, Copy, Drop)]
-pub(crate) struct RecordEnd {
-    pub(crate) end: usize,
-    pub(crate) closed: bool,
-}

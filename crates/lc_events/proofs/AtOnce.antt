@@ -1,0 +1,70 @@
+-- What a store that is up refuses at once.
+use Rattle.std.proofs.Common.{◌≡◌, ℕ, ◌<◌, Bool, true, false, ◌&&◌, List, Option, Some, None, get_or, sym, ap, ◌∙◌, arith}
+use Rattle.std.proofs.lemmas.Bool.{ltb-true, and_parts as and-both}
+use Rattle.std.proofs.lemmas.Option.{slice_get_read}
+use Rattle.std.specs.Prelude.{option_map, slice_get}
+use Rattle.std.specs.List.{list_all}
+use Rattle.lc_disk.specs.declared.area.Area.{Ghosts}
+use Rattle.lc_record.specs.declared.geometry.Geometry.{Geometry}
+use Rattle.lc_model.specs.Refusals.{Named, named, are_known, acts_halted, is_known, is_halted, is_up, is_node, is_thread, is_segment, is_page}
+use Rattle.lc_model.specs.State.{Setting, State}
+use Rattle.lc_model.specs.declared.event.Event.{Event}
+use Rattle.lc_model.specs.declared.refusal.Refusal.TheVariants.{Halted}
+use Rattle.lc_model.proofs.Rows.{common-halted, common-none}
+use Rattle.lc_journal.specs.Log.{is_failed}
+use Rattle.lc_settled.specs.Numbers.{Numbers}
+use Rattle.lc_settled.specs.Places.{same_some}
+use Rattle.lc_events.specs.Refuses.{Refuses, ActsRunning}
+use Rattle.lc_events.specs.Running.{FitsRunning}
+use Rattle.lc_events.specs.declared.node_state.NodeState.{NodeState}
+use Rattle.lc_events.specs.declared.running.Running.{Running}
+
+-- the node that acts is one of the geometry
+acts_within : (g : Geometry) (o : Option Named) (n : ℕ) → Some n ≡ option_map (λ its. its.node) o → are_known g o ≡ true → n < g.nodes
+acts_within g None n acts known = absurd cc
+acts_within g (Some its) n acts known =
+    let others = list_all (is_node g) its.others in
+    let threads = list_all (is_thread g) its.threads in
+    let segments = list_all (is_segment g) its.segments in
+    let a = and-both (is_node g its.node && others && threads && segments) (list_all (is_page g) its.pages) known in
+    let b = and-both (is_node g its.node && others && threads) segments a.0 in
+    let c = and-both (is_node g its.node && others) threads b.0 in
+    let d = and-both (is_node g its.node) others c.0 in
+    let same : n ≡ its.node = same_some n its.node acts in
+    rw same (ltb-true its.node g.nodes d.0)
+
+-- that it is halted is asked of that node
+acts_at : (halted : ℕ → Bool) (o : Option Named) (n : ℕ) → Some n ≡ option_map (λ its. its.node) o → acts_halted halted o ≡ halted n
+acts_at halted None n acts = absurd cc
+acts_at halted (Some its) n acts = ap halted (sym (same_some n its.node acts))
+
+module _ {D : Type 0} (a : Ghosts D) where
+  running_at : (nodes : List (NodeState D a)) (o : Option Named) (n : ℕ) (node : NodeState D a) → Some n ≡ option_map (λ its. its.node) o → slice_get nodes n ≡ Some node
+      → is_failed a node.journal.log ≡ false → ActsRunning a o nodes
+  running_at nodes None n node acts at goes = absurd cc
+  running_at nodes (Some its) n node acts at goes = λ other got.
+      let same : slice_get nodes its.node ≡ Some node = ap (slice_get nodes) (sym (same_some n its.node acts)) ∙ at in
+      ap (λ (w : NodeState D a). is_failed a w.journal.log) (same_some other node (sym got ∙ same)) ∙ goes
+
+  -- the node that acts, where all that the event names is known
+  module _ (w : Running D a) (event : Event) (known : is_known w.geometry event ≡ true) (n : ℕ) (acts : Some n ≡ option_map (λ its. its.node) (named event))
+      (node : NodeState D a) (read : node ≡ get_or w.nodes.items n node) where
+    pub stands : slice_get w.nodes.items n ≡ Some node
+    stands =
+        let within : n < w.nodes.len = omega (arith, acts_within w.geometry (named event) n acts known, w.all_nodes) in
+        slice_get_read w.nodes.items w.nodes.len n node w.nodes.ok.0 within read
+
+    known_in : (m : Setting) (s : State) (x : Numbers) → FitsRunning a m w s x → is_known m.geometry event ≡ true
+    known_in m s x h = ap (λ (g : Geometry). is_known g event) h.geometry_is ∙ known
+
+    halts : (m : Setting) (s : State) (x : Numbers) → FitsRunning a m w s x → is_halted s.halted event ≡ is_failed a node.journal.log
+    halts m s x h = acts_at s.halted (named event) n acts ∙ (h.each n node stands).journal.halted
+
+    pub halted_at_once : is_failed a node.journal.log ≡ true → Refuses a w event (Some Halted)
+    halted_at_once fails m s x h = sym (common-halted m.geometry s event (ap is_up h.up) (known_in m s x h) (halts m s x h ∙ fails))
+
+    pub none_at_once : is_failed a node.journal.log ≡ false → Refuses a w event None
+    none_at_once goes m s x h = sym (common-none m.geometry s event (ap is_up h.up) (known_in m s x h) (halts m s x h ∙ goes))
+
+    pub acts_running : is_failed a node.journal.log ≡ false → ActsRunning a (named event) w.nodes.items
+    acts_running goes = running_at w.nodes.items (named event) n node acts stands goes

@@ -1,4 +1,0 @@
-pub mod Names
-pub mod Makes
-pub mod Keeps
-pub mod SizeLines

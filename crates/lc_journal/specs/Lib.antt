@@ -1,0 +1,17 @@
+pub mod Coherent
+pub mod Log
+pub mod FaultReplies
+pub mod CallReplies
+pub mod MayReply
+pub mod Records
+pub mod Journal
+pub mod Follows
+pub mod Beside
+pub mod Logging
+pub mod Published
+pub mod Trimming
+pub mod Blank
+pub mod LogWords
+pub mod Resets
+pub mod Pieces
+pub mod Kept

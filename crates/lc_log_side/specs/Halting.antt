@@ -1,0 +1,11 @@
+-- What keeps a node from serving on.
+use Rattle.std.specs.Prelude.{◌≡◌, ◌⊎◌, true, false}
+use Rattle.lc_log_side.specs.LogView.{LogView}
+use Rattle.lc_log_side.specs.Resets.{IsSpent}
+use Rattle.lc_segments.specs.declared.node_fault.NodeFault.{NodeFault}
+use Rattle.lc_segments.specs.declared.node_fault.NodeFault.TheVariants.{Halted, RoundsSpent}
+
+-- why the log may not be truncated at all: it serves no more, or it is in its last round
+abbrev pub IsUntruncatable : {D : Type 0} → LogView D → NodeFault → Type 0
+IsUntruncatable log fault =
+    ((fault ≡ Halted) × (log.is_halted ≡ true)) ⊎ ((fault ≡ RoundsSpent) × (log.is_halted ≡ false) × IsSpent log)

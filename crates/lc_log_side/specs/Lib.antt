@@ -1,0 +1,14 @@
+pub mod Among
+pub mod Ended
+pub mod Flushes
+pub mod Halting
+pub mod LeftBy
+pub mod Refusals
+pub mod LogSide
+pub mod LogView
+pub mod Published
+pub mod Receipts
+pub mod Resets
+pub mod Settling
+pub mod Truncates
+pub mod Trimming

@@ -1,0 +1,25 @@
+//! A node's log under its lock: what is flushed, settled, reset and told.
+#![tactic(auto)]
+
+mod cleaning;
+mod confirming;
+mod ending;
+mod flushing;
+mod halting;
+mod leaving_log;
+mod log_side;
+mod log_state;
+mod places;
+mod publishing;
+mod reserved;
+mod resetting;
+mod running;
+mod seeing;
+mod settling;
+mod telling;
+mod trimming;
+mod truncating;
+
+pub use confirming::Confirmed;
+pub use log_side::LogSide;
+pub use log_state::LogState;

@@ -1,0 +1,38 @@
+//! A node's log, with what is staged for it.
+use crate::log_state::LogState;
+use lc_disk::Area;
+use lc_ended::Ended;
+use lc_record::Group;
+use lc_stage::{CommitSeat, FlushSeat};
+use lc_trunc::KnownClean;
+use std::marker::Model;
+
+/// A node's log: its flusher, its device, how many records it has published, and what is known clean of the segments.
+/// It has the words of its stable records, which are what the flusher took in this round or, once it is halted, the
+/// front of that. For its peers it has those of the records of the rounds that have ended since it was opened, from the
+/// first that somebody may still want.
+#[derive(Drop)]
+pub struct LogSide<D: Area> {
+    pub flusher: FlushSeat,
+    /// A committer's seat, by which the tail is loaded.
+    pub probe: CommitSeat,
+    pub log: LogState<D>,
+    pub group: Group,
+    pub stable: Vec<u64>,
+    pub ended: Ended,
+    /// How many records it has published since it was opened.
+    pub count: u64,
+    pub round: u64,
+    pub known: KnownClean,
+}
+
+impl<D: Area> Model for LogSide<D> {
+    ghost use Rattle.lc_log_side.specs.LogView.{LogView};
+    ghost use Rattle.lc_log_side.specs.LogSide.{log_view, IsLogSide};
+
+    ghost Value = { LogView D };
+
+    ghost view = { log_view D.Area };
+
+    ghost invariant = { IsLogSide D.Area };
+}

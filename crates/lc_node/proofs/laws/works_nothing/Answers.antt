@@ -1,5 +1,0 @@
-use Rattle.lc_node.proofs.WorkSteps.{works_nothing}
-use Rattle.lc_node.proofs.laws.works_nothing.Goals as goal
-
-pub returns : goal.returns
-returns g c = works_nothing g.I.Images

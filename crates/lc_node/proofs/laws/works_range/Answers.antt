@@ -1,5 +1,0 @@
-use Rattle.lc_node.proofs.WorkSteps.{works_range}
-use Rattle.lc_node.proofs.laws.works_range.Goals as goal
-
-pub returns : goal.returns
-returns g c = works_range g.I.Images

@@ -1,5 +1,0 @@
-use Rattle.lc_node.proofs.WorkSteps.{works_then}
-use Rattle.lc_node.proofs.laws.works_then.Goals as goal
-
-pub returns : goal.returns
-returns g c = works_then g.I.Images g.met.I.Images.beside_chained

@@ -1,5 +1,0 @@
-use Rattle.lc_node.proofs.WorkSteps.{works_write}
-use Rattle.lc_node.proofs.laws.works_write.Goals as goal
-
-pub returns : goal.returns
-returns g c = works_write g.I.Images

@@ -1,8 +1,0 @@
-use Rattle.std.proofs.Common.{rules}
-use Rattle.lc_node.specs.Giving.{IsStableTo}
-use Rattle.lc_node.proofs.seg_side.SegSide.hand_over.Goals as goal
-
-pub returns-clause-given : goal.returns-clause-given
-returns-clause-given g c = λ is. let both = c.give.ensures.given is in
-    let stable : IsStableTo c.args.log.now c.is_flushed-flushed.new.self = search rules in
-    (stable, both.1)

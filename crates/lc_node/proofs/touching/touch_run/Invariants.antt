@@ -1,7 +1,0 @@
-use Rattle.std.specs.Option.{ForSome}
-use Rattle.lc_node.specs.Touched.{range_at}
-use Rattle.lc_node.proofs.TouchedPages.{Touching}
-use Rattle.lc_node.proofs.touching.touch_run.Given as goal
-
-abbrev pub invariant-loop-page : goal.invariant-loop-page
-invariant-loop-page l = ForSome l.fn.place.token (λ token. Touching (range_at l.run) l.page token l.fn.place l.place)

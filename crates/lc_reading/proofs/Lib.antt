@@ -1,0 +1,9 @@
+pub mod SpelledPieces
+pub mod Firsts
+pub mod KnownLocks
+pub mod NodeLogs
+pub mod PicturePieces
+pub mod PictureTests
+pub mod Removed
+pub mod SameFaults
+pub mod TokenReads

@@ -1,0 +1,5 @@
+pub mod Settling
+pub mod Turning
+pub mod Appending
+pub mod Closes
+pub mod OneMore

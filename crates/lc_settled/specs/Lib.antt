@@ -1,0 +1,7 @@
+pub mod Numbers
+pub mod Settled
+pub mod Turns
+pub mod Places
+pub mod Follows
+pub mod FollowsDesk
+pub mod Runs
