@@ -8,7 +8,7 @@ use Rattle.std.proofs.lemmas.List.{append-nil, map-append}
 use Rattle.std.proofs.lemmas.List.Elements.{All-tail, All-append, All-cons, All-nil}
 use Rattle.std.proofs.lemmas.List.Folds.{concat-append}
 use Rattle.lc_cluster.specs.Messages.{records_in, tokens_among, record_message, words_of, numbered}
-use Rattle.lc_segments.specs.Published.{IsStart}
+use Rattle.lc_log_side.specs.Published.{IsStart}
 use Rattle.lc_cluster.specs.Spread.{sent_to, line_of, count_of, IsPrefix}
 use Rattle.lc_cluster.specs.Copies.{texts, FitBehind, AreBehind, AreNext, SendsAll, SendsThese, SendsFirst}
 use Rattle.lc_node.specs.declared.message.Message.{Message}

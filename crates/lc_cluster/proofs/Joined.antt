@@ -1,4 +1,5 @@
--- Lists that are filled side by side, and a list of which each thing is so, taken from its front; and the nodes that came up so.
+-- Of a cluster: lists that are filled side by side, and a list of which each thing is so, taken from its front; and
+-- the nodes that came up so.
 use Rattle.std.proofs.Common.{◌≡◌, ℕ, ◌<◌, List, [], ◌∷◌, ◌++◌, All, drop, length, Some, refl, sym, ap, subst, arith}
 use Rattle.std.specs.Prelude.{option_map, slice_get, slice_index_or}
 use Rattle.std.proofs.lemmas.List.Elements.{All-drop}

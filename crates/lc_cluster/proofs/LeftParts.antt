@@ -1,4 +1,4 @@
--- What a cluster leaves, of what stands at its members.
+-- Of a cluster: what a cluster leaves, of what stands at its members.
 use Rattle.std.proofs.Common.{◌≡◌, ℕ, List, [], ◌∷◌, refl, Some, All, get_or, length, map, sym, ap, subst, ◌∙◌, arith}
 use Rattle.std.specs.Global.{Vec}
 use Rattle.std.specs.Prelude.{slice_get, vec_len}

@@ -1,4 +1,4 @@
--- A message is answered, and is kept where it comes back.
+-- Of a cluster: a message is answered, and is kept where it comes back.
 use Rattle.std.proofs.Common.{◌≡◌, ℕ, List, [], ◌∷◌, ◌++◌, Some, None, refl, sym, subst, ◌∙◌, inl, inr}
 use Rattle.std.specs.Prelude.{IsSome, MatchOption, Option}
 use Rattle.lc_cluster.specs.Reached.{IsNextAt}

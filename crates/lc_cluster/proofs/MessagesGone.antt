@@ -1,4 +1,4 @@
--- The messages of a peer are gone on with one after another.
+-- Of a cluster: the messages of a peer are gone on with one after another.
 use Rattle.std.proofs.Common.{◌≡◌, ℕ, List, [], ◌∷◌, ◌++◌, Some, None, refl, sym, ap, subst, ◌∙◌, inl, inr}
 use Rattle.std.specs.Prelude.{Err, IfOk, IsSome, MatchOption, Ok, Option, Result}
 use Rattle.std.proofs.lemmas.Option.{same_Some as some_same}

@@ -4,7 +4,7 @@ use Rattle.std.specs.Prelude.{slice_get}
 use Rattle.std.specs.Global.{Vec}
 use Rattle.std.specs.List.{concat}
 use Rattle.lc_cluster.specs.Messages.{records_in, record_message, words_of, numbered}
-use Rattle.lc_segments.specs.Published.{IsStart}
+use Rattle.lc_log_side.specs.Published.{IsStart}
 use Rattle.lc_node.specs.declared.message.Message.{Message}
 use Rattle.lc_node.specs.declared.message.Message.TheVariants.{Record, Token}
 

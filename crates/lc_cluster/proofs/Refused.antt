@@ -1,4 +1,4 @@
--- Where what a cluster leaves is refused.
+-- Of a cluster: where what a cluster leaves is refused.
 use Rattle.std.proofs.Common.{◌≡◌, ◌⊎◌, ◌<◌, ℕ, List, length, Some, inl, inr, sym, ap, subst, ◌∙◌, arith}
 use Rattle.std.specs.Prelude.{Any, map, option_map, slice_get}
 use Rattle.std.proofs.lemmas.List.{length-map}

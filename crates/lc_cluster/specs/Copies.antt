@@ -3,7 +3,7 @@ use Rattle.std.specs.Prelude.{◌≡◌, ◌⊎◌, ℕ, ◌+◌, ◌-◌, ◌^�
 use Rattle.std.specs.List.{concat}
 use Rattle.std.specs.Global.{Vec}
 use Rattle.lc_cluster.specs.Messages.{records_in, tokens_among, numbered}
-use Rattle.lc_segments.specs.Published.{IsStart}
+use Rattle.lc_log_side.specs.Published.{IsStart}
 use Rattle.lc_cluster.specs.Spread.{sent_to, line_of, count_of, IsCutOff}
 use Rattle.lc_cluster.specs.declared.peer_end.PeerEnd.{PeerEnd}
 

@@ -1,4 +1,5 @@
--- What a cluster forgets: which records all its nodes have applied, as was seen under the locks of their segments.
+-- Of a cluster: what a cluster forgets: which records all its nodes have applied, as was seen under the locks of their
+-- segments.
 use Rattle.std.specs.Prelude.{◌≡◌, ℕ, ◌<◌, ◌≤◌, List, Some, slice_get, slice_index}
 use Rattle.lc_log_side.specs.LogView.{LogView}
 use Rattle.lc_node.specs.Logs.{IsLogOf}

@@ -1,4 +1,4 @@
--- What a cluster leaves once its threads have ended.
+-- Of a cluster: what a cluster leaves once its threads have ended.
 use Rattle.std.specs.Prelude.{◌≡◌, ℕ, List, Some, All, length, slice_get}
 use Rattle.std.specs.Global.{Vec}
 use Rattle.lc_stage.specs.declared.seats.CommitSeat.{CommitSeat}

@@ -1,4 +1,4 @@
--- What a pump does with the messages of a peer.
+-- Of a cluster: what a pump does with the messages of a peer.
 use Rattle.std.specs.Prelude.{◌≡◌, ◌⊎◌, ℕ, List, [], ◌∷◌, ◌++◌, None, Some}
 use Rattle.lc_cluster.specs.Receiving.{kept_at, taken_at}
 use Rattle.lc_node.specs.declared.message.Message.{Message}

@@ -1,4 +1,4 @@
--- What became of a message from a peer at the segments of a node, under the locks that it got.
+-- Of a cluster: what became of a message from a peer at the segments of a node, under the locks that it got.
 use Rattle.std.specs.Prelude.{◌≡◌, ◌⊎◌, ℕ, List, ◌∷◌, [], ◌++◌, Option, Some, None, Result, Ok}
 use Rattle.lc_segments.specs.Journey.{Journey}
 use Rattle.lc_cluster.specs.Receiving.{kept_at, taken_at}

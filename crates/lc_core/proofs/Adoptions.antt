@@ -2,7 +2,7 @@
 use Rattle.std.proofs.Common.{◌≡◌, ℕ, ◌+◌, ◌<◌, true, false, List, [], length, map, drop, take, Option, Some, None, refl, sym, ap, subst, ◌∙◌, arith}
 use Rattle.std.specs.Prelude.{slice_get, if◌then◌else◌}
 use Rattle.std.proofs.lemmas.Bool.{eqb-true, lt-ltb}
-use Rattle.std.proofs.lemmas.Option.{slice_get_within}
+use Rattle.std.proofs.lemmas.Option.{slice_get_within, same_Some as same_some}
 use Rattle.lc_disk.specs.declared.area.Area.{Ghosts}
 use Rattle.lc_record.specs.declared.geometry.Geometry.{Geometry}
 use Rattle.lc_record.proofs.ListLemmas.{slice_get_some as some_at, slice_get-map_some as get-map}
@@ -24,7 +24,6 @@ use Rattle.lc_core.specs.Made.{AreFound, IsFoundNode, IsFoundSegment, IsMadeUp}
 use Rattle.lc_events.specs.Pieces.{IsMadeNode}
 use Rattle.lc_desk.specs.Pieces.{IsMadeSlot, is_here, standing_at}
 use Rattle.lc_core.specs.Pieces.{left_by}
-use Rattle.lc_settled.specs.Places.{same_some}
 use Rattle.lc_journal.specs.Records.{KeptRecords, marks_of}
 use Rattle.lc_desk.specs.Slots.{segment_to}
 use Rattle.lc_journal.specs.declared.log.Log.{Log}

@@ -1,4 +1,4 @@
--- Which replies tell of a call, event by event.
+-- Of the store: which replies tell of a call, event by event.
 use Rattle.std.proofs.Common.{◌≡◌, ℕ, ◌+◌, Bool, true, false, length, refl, sym, ap, ◌∙◌}
 use Rattle.std.specs.Prelude.{if◌then◌else◌, not}
 use Rattle.std.proofs.lemmas.Bool.{eq-eqb, ne_eqb}

@@ -4,7 +4,7 @@ use Rattle.std.specs.Prelude.{slice_get, slice_index_or}
 use Rattle.std.specs.Global.{Vec}
 use Rattle.std.proofs.lemmas.Bool.{cases_lt}
 use Rattle.std.proofs.lemmas.List.{get_or_past, length-map}
-use Rattle.std.proofs.lemmas.Option.{get_or_from_slice_get, slice_get_within}
+use Rattle.std.proofs.lemmas.Option.{get_or_from_slice_get, slice_get_within, same_Some as same_some}
 use Rattle.lc_disk.specs.declared.area.Area.{Ghosts}
 use Rattle.lc_record.specs.declared.record.Record.{Record}
 use Rattle.lc_record.proofs.ListLemmas.{slice_get_some as some_at, slice_get-map_some as get-map, slice_get_from_map as mapped_at}
@@ -17,7 +17,6 @@ use Rattle.lc_rest.specs.Parts.{AreKept}
 use Rattle.lc_reading.specs.Pictures.{AreImages}
 use Rattle.lc_core.specs.Pieces.{AreNodePieces}
 use Rattle.lc_desk.specs.Pieces.{AreTokens}
-use Rattle.lc_settled.specs.Places.{same_some}
 use Rattle.lc_reading.specs.ReadAreas.{AreAreas, AreWhole}
 use Rattle.lc_reading.specs.ReadNodes.{AreReadNodes, images_of}
 use Rattle.lc_reading.specs.Readings.{at_segment, no_token, tests_of}

@@ -2,7 +2,7 @@
 use Rattle.std.proofs.Common.{◌≡◌, ◌≤◌, ◌+◌, ◌*◌, ℕ, Bool, List, [], drop, length, Option, Some, None, refl, sym, ap, subst, ◌∙◌, arith}
 use Rattle.std.specs.Prelude.{Result, Ok, Err, IfOk, OnErr, option_map, slice_get}
 use Rattle.std.proofs.lemmas.List.{length-replicate}
-use Rattle.std.proofs.lemmas.Option.{slice_get-map, slice_get_within}
+use Rattle.std.proofs.lemmas.Option.{slice_get-map, slice_get_within, same_Some as same_some}
 use Rattle.lc_disk.specs.declared.area.Area.{Ghosts}
 use Rattle.lc_record.specs.declared.geometry.Geometry.{Geometry}
 use Rattle.lc_record.proofs.ListLemmas.{slice_get-map_some as get-map, slice_get-drop as get-drop}
@@ -18,7 +18,6 @@ use Rattle.lc_model.specs.declared.reply.Reply.{Reply}
 use Rattle.lc_recover.specs.Reads.{HaveLengths}
 use Rattle.lc_events.proofs.Faults.{same_devices}
 use Rattle.lc_core.proofs.Opening.{log_area, segment_len}
-use Rattle.lc_settled.specs.Places.{same_some}
 use Rattle.lc_journal.specs.declared.log.Log.{Log}
 use Rattle.lc_events.specs.declared.node_state.NodeState.{NodeState}
 use Rattle.lc_events.specs.declared.running.Running.{Running}

@@ -1,4 +1,4 @@
--- A transaction gets its place, and its record is closed there, from the nodes up to the store.
+-- Of the store: a transaction gets its place, and its record is closed there, from the nodes up to the store.
 use Rattle.std.proofs.Common.{◌≡◌, ℕ, refl, ◌∙◌, inl, inr}
 use Rattle.std.specs.Prelude.{Result, Ok, Err}
 use Rattle.std.specs.declared.alloc.AllocError.{AllocError}

@@ -1,4 +1,4 @@
--- Lists that are made or filled item by item, and what a desk has whose slots are of their segments.
+-- Of the store: lists that are made or filled item by item, and what a desk has whose slots are of their segments.
 use Rattle.std.proofs.Common.{◌≡◌, ℕ, zero, suc, ◌+◌, ◌<◌, List, [], ◌∷◌, ◌++◌, map, drop, length, Option, Some, None, sym, ap, subst, ◌∙◌, arith}
 use Rattle.std.specs.Prelude.{slice_get, slice_index_or, replicate}
 use Rattle.std.proofs.lemmas.List.{append_assoc, map-append}

@@ -1,7 +1,7 @@
 -- Lists that are put after others.
 use Rattle.std.proofs.Common.{◌≡◌, ℕ, zero, suc, ◌+◌, List, [], ◌∷◌, ◌++◌, length, take, Some, ap, ◌∙◌, arith}
 use Rattle.std.specs.Prelude.{slice_get}
-use Rattle.lc_settled.specs.Places.{same_some}
+use Rattle.std.proofs.lemmas.Option.{same_Some as same_some}
 
 pub last_get : {A : Type 0} (xs : List A) (x : A) (k : ℕ) → k ≡ length xs → slice_get (xs ++ x ∷ []) k ≡ Some x
 last_get [] x k is = ap (slice_get (x ∷ [])) is

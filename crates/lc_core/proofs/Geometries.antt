@@ -1,9 +1,9 @@
--- The geometry of a store stays, and what it does not have is unknown.
+-- Of the store: the geometry of a store stays, and what it does not have is unknown.
 use Rattle.std.proofs.Common.{◌≡◌, ℕ, ◌+◌, ◌*◌, Bool, true, false, List, Option, None, Some, refl, sym, ap, subst, ◌∙◌, inl, inr, arith, lt-ltb}
 use Rattle.std.specs.Option.{ForSome}
 use Rattle.std.specs.Prelude.{Result, Ok, Err, IfOk, is_some, option_and_then, slice_get, if◌then◌else◌}
 use Rattle.std.proofs.lemmas.Bool.{cases_lt, le-ltb}
-use Rattle.std.proofs.lemmas.Option.{slice_get_past}
+use Rattle.std.proofs.lemmas.Option.{slice_get_past, same_Some as same_some}
 use Rattle.std.proofs.lemmas.Result.{IfOk-from_err}
 use Rattle.lc_disk.specs.declared.area.Area.{Ghosts}
 use Rattle.lc_disk.specs.declared.choice.Choice.{Choice}
@@ -25,7 +25,6 @@ use Rattle.lc_core.specs.Geometries.{RefusesOutside, phase_geometry}
 use Rattle.lc_events.specs.Geometries.{RefusesUnknown}
 use Rattle.lc_journal.specs.Log.{area_of}
 use Rattle.lc_core.specs.LogWords.{log_area}
-use Rattle.lc_settled.specs.Places.{same_some}
 use Rattle.lc_core.specs.Recovering.{ComesUp, RepliesTo}
 use Rattle.lc_core.specs.Stops.{StopsAll}
 use Rattle.lc_events.specs.declared.node_state.NodeState.{NodeState}

@@ -5,7 +5,7 @@ use Rattle.std.proofs.Math.Seq.{take-nil}
 use Rattle.std.proofs.lemmas.List.{append-nil, nil_from_length}
 use Rattle.std.proofs.lemmas.List.Elements.{All-weaker}
 use Rattle.std.proofs.lemmas.List.Sums.{sum_by-cons}
-use Rattle.std.proofs.lemmas.Option.{slice_get_within}
+use Rattle.std.proofs.lemmas.Option.{slice_get_within, same_Some as same_some}
 use Rattle.lc_disk.specs.contracts.mem_area.MemAreaArea.TheImpl.{ghosts}
 use Rattle.lc_disk.specs.declared.area.Area.{Ghosts}
 use Rattle.lc_disk.specs.declared.mem_area.MemArea.{MemArea}
@@ -36,7 +36,6 @@ use Rattle.lc_core.specs.Faults.{CountsAll, area_failures, phase_failures}
 use Rattle.lc_core.specs.Headline.{AllMerge, Cuts, Holds, IsSerial, Leaves, MergeTo}
 use Rattle.lc_settled.specs.Numbers.{Numbers}
 use Rattle.lc_core.specs.Observed.{observed, stands_up}
-use Rattle.lc_settled.specs.Places.{same_some}
 use Rattle.lc_core.specs.Runs.{FollowsRun, Settles}
 use Rattle.lc_settled.specs.Runs.{RunsOn}
 use Rattle.lc_core.specs.Showing.{LendsPage, image_of}

@@ -2,6 +2,7 @@
 use Rattle.std.proofs.Common.{◌≡◌, ℕ, ◌<◌, ◌≤◌, true, List, [], ◌++◌, drop, take, Some, refl, sym, ap, subst, ◌∙◌, inl, inr, arith}
 use Rattle.std.proofs.lemmas.Bool.{lt-ltb}
 use Rattle.std.specs.Prelude.{◌⊎◌, nat_lt}
+use Rattle.std.proofs.lemmas.Option.{same_Some as same_some}
 use Rattle.lc_disk.specs.Area.{IsImage}
 use Rattle.lc_disk.specs.declared.area.Area.{Ghosts}
 use Rattle.lc_record.specs.Words.{words_of}
@@ -17,7 +18,6 @@ use Rattle.lc_model.specs.Stored.{Disks, IsLog, records_of}
 use Rattle.lc_journal.specs.Journal.{FitsLog}
 use Rattle.lc_journal.specs.Log.{Stands, HasReset, area_of}
 use Rattle.lc_settled.specs.Numbers.{Numbers}
-use Rattle.lc_settled.specs.Places.{same_some}
 use Rattle.lc_journal.specs.Records.{KeptRecords}
 use Rattle.lc_journal.specs.declared.log.Log.{Log}
 use Rattle.lc_journal.specs.declared.log.Log.TheVariants.{Idle, Written, Synced, Opened, Sealed, Closing, Emptied, Failed, Torn, Taken}

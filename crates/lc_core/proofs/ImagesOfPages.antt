@@ -2,7 +2,7 @@
 use Rattle.std.proofs.Common.{◌≡◌, ℕ, ◌+◌, ◌<◌, List, drop, map, length, Some, replicate, sym, ap, subst, ◌∙◌, arith}
 use Rattle.std.specs.Prelude.{slice_get}
 use Rattle.std.proofs.lemmas.List.{length-drop, length-map}
-use Rattle.std.proofs.lemmas.Option.{slice_get_within}
+use Rattle.std.proofs.lemmas.Option.{slice_get_within, same_Some as same_some}
 use Rattle.lc_record.specs.Content.{segment_of}
 use Rattle.lc_record.specs.declared.geometry.Geometry.{Geometry}
 use Rattle.lc_record.proofs.ListLemmas.{slice_get-drop as get-drop, slice_get_from_map as from-map}
@@ -14,7 +14,6 @@ use Rattle.lc_recover.specs.Reads.{area_count, store_of}
 use Rattle.lc_recover.proofs.Images.{get-pages_read, in-segment, length-pages_read, shape-of}
 use Rattle.lc_settled.specs.Numbers.{Numbers}
 use Rattle.lc_desk.specs.Pages.{IsStored}
-use Rattle.lc_settled.specs.Places.{same_some}
 
 -- a page of the store that images read as, and the image it is read of
 pub record PageOf (g : Geometry) (images : List (List ℕ)) (segment page : ℕ) (text : Page) : Type 0 where

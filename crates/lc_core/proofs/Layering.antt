@@ -1,5 +1,5 @@
--- What an event that wants no memory does, from the nodes up to the store.
-use Rattle.std.proofs.Common.{◌≡◌, ◌++◌, false, true, refl, sym, ap, subst, ◌∙◌, true≢false}
+-- Of the store: what an event that wants no memory does, from the nodes up to the store.
+use Rattle.std.proofs.Common.{◌≡◌, ◌++◌, Bool, false, true, refl, sym, ap, subst, ◌∙◌, true≢false}
 use Rattle.std.specs.Prelude.{Result, Ok, Err}
 use Rattle.std.specs.declared.alloc.AllocError.{AllocError}
 use Rattle.std.specs.Global.{Vec}
@@ -14,14 +14,17 @@ use Rattle.lc_core.specs.Answered.{Tries}
 use Rattle.lc_core.specs.Calls.{CallsArea, KeepsAreas}
 use Rattle.lc_events.specs.FaultReplies.{CountsFaults}
 use Rattle.lc_core.specs.Faults.{CountsPhase, area_failures, phase_failures}
-use Rattle.lc_events.specs.Faults.{SameDevices, log_failures, logs_of}
+use Rattle.lc_events.specs.Faults.{CountsLogs, SameDevices, log_failures, logs_of}
+use Rattle.lc_events.specs.Geometries.{RefusesUnknown}
+use Rattle.lc_events.specs.MayReply.{may_reply}
+use Rattle.lc_desk.specs.Pages.{FitsPages}
 use Rattle.lc_core.specs.Geometries.{phase_geometry}
 use Rattle.lc_events.specs.Layers.{StepsRunning, TriesRunning}
 use Rattle.lc_core.specs.Layers.{StepsUp, TriesUp}
 use Rattle.lc_settled.specs.Numbers.{Numbers}
 use Rattle.lc_core.specs.Pages.{areas_of}
 use Rattle.lc_core.specs.Recovers.{RefusesAtOnce}
-use Rattle.lc_events.specs.Stepping.{TellsWriting, is_plain}
+use Rattle.lc_events.specs.Stepping.{FollowsStep, TellsWriting, is_plain}
 use Rattle.lc_core.specs.Stepping.{works_up}
 use Rattle.lc_core.specs.Truncating.{StepsTo}
 use Rattle.lc_core.specs.World.{AsksIn, FitsPhase, Leads}
@@ -49,21 +52,37 @@ use Rattle.lc_core.proofs.StaysHonest.{keeps_honest, stays_honest}
 use Rattle.lc_core.proofs.Recovers.{down_refuses, up_asks}
 
 module _ {D : Type 0} (a : Ghosts D) where
-  -- what the nodes do, the store does
-  pub up_steps : (up later : Rising D a) (event : Event) (reply : Reply) → is_plain event ≡ true → ((m : Setting) (x : Numbers) → TellsWriting m x event false) → later.segments ≡ up.segments
-      → StepsRunning a up.running event reply later.running → StepsUp a up event reply later
-  up_steps up later event reply plain told segments steps =
+  -- what the nodes do, the store does; it is told whether a page of a segment is being written
+  pub up_moves : (up later : Rising D a) (event : Event) (reply : Reply) (writing : Bool) → is_plain event ≡ true → ((m : Setting) (x : Numbers) → FitsPages a m up.segments.items x → TellsWriting m x event writing)
+      → later.segments ≡ up.segments → FollowsStep a writing up.running event reply later.running → CountsLogs a up.running event reply later.running → RefusesUnknown up.running.geometry event reply → may_reply event reply ≡ true
+      → StepsUp a up event reply later
+  up_moves up later event reply writing plain told segments follows counts unknown names =
       let r : Result Reply AllocError = Ok reply in
       record {
-        follows = λ m s x h. runs_up a m s x up later event reply false plain segments steps.counts.devices steps.follows (told m x) h;
+        follows = λ m s x h. runs_up a m s x up later event reply writing plain segments counts.devices follows (told m x h.pages) h;
         faults =
             subst (λ (v : Vec (Pages D a)). CountsFaults reply (phase_failures a (Up up)) (log_failures a (logs_of a later.running.nodes.items) ++ area_failures a (areas_of a v.items))) (sym segments)
-            (up_counts a up event reply later.running steps.counts);
-        geometry = steps.counts.devices.geometry;
-        unknown = steps.unknown;
-        calls = step_calls a up later event plain r (ap (λ (v : Vec (Pages D a)). areas_of a v.items) segments) steps.counts tt;
-        names = steps.names;
+            (up_counts a up event reply later.running counts);
+        geometry = counts.devices.geometry;
+        unknown = unknown;
+        calls = step_calls a up later event plain r (ap (λ (v : Vec (Pages D a)). areas_of a v.items) segments) counts tt;
+        names = names;
       }
+
+  pub up_steps : (up later : Rising D a) (event : Event) (reply : Reply) → is_plain event ≡ true → ((m : Setting) (x : Numbers) → TellsWriting m x event false) → later.segments ≡ up.segments
+      → StepsRunning a up.running event reply later.running → StepsUp a up event reply later
+  up_steps up later event reply plain told segments steps = up_moves up later event reply false plain (λ m x h. told m x) segments steps.follows steps.counts steps.unknown steps.names
+
+  -- what wants no memory
+  pub steps_tries : (up : Rising D a) (event : Event) (reply : Reply) (later : Rising D a) → StepsUp a up event reply later → TriesUp a up event (Ok reply) later
+  steps_tries up event reply later steps = record {
+    steps = steps;
+    memory = tt;
+    err = tt;
+    no_fault = tt;
+    geometry = tt;
+    kept = tt;
+  }
 
   -- also where it may want memory
   pub up_tries : (up later : Rising D a) (event : Event) (result : Result Reply AllocError) → is_plain event ≡ true → ((m : Setting) (x : Numbers) → TellsWriting m x event false) → later.segments ≡ up.segments
@@ -85,6 +104,11 @@ module _ {D : Type 0} (a : Ghosts D) where
   -- the devices are the same, whatever is answered
   pub tries_devices : (old new : Running D a) (event : Event) (result : Result Reply AllocError) → TriesRunning a old event result new → SameDevices a old new
   tries_devices old new event result tries = steps_devices a old new event result (IfOk-weaker result _ _ (λ reply steps. steps.counts) tries.steps) tries.no_fault
+
+  -- so is the geometry
+  pub tries_geometry : (up later : Rising D a) (event : Event) (result : Result Reply AllocError) → TriesUp a up event result later → later.running.geometry ≡ up.running.geometry
+  tries_geometry up later event (Ok reply) tries = tries.steps.geometry
+  tries_geometry up later event (Err fault) tries = tries.geometry
 
   pub steps_up : (old new : World D a) (up later : Rising D a) (event : Event) (reply : Reply) → old.phase ≡ Up up → new.phase ≡ Up later → (event ≡ RecoverStep → ⊥) → StepsUp a up event reply later
       → StepsTo a old event reply new

@@ -1,7 +1,6 @@
 pub mod Refusing
 pub mod PageWrites
 pub mod Truncations
-pub mod Ordinary
 pub mod OneMore
 pub mod Rising
 pub mod Recoveries

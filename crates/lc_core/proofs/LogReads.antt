@@ -1,7 +1,7 @@
 -- A log that is read: it stands as before, and what it reads as is what its node has logged.
 use Rattle.std.proofs.Common.{◌≡◌, ℕ, ◌+◌, ◌*◌, ◌<◌, ◌≤◌, Bool, true, false, List, [], ◌++◌, drop, length, take, Option, Some, None, refl, sym, ap, subst, ◌∙◌, inl, inr, arith}
 use Rattle.std.proofs.lemmas.Bool.{cases_Bool, cases_eq, lt-ltb}
-use Rattle.std.proofs.lemmas.Option.{slice_get-map}
+use Rattle.std.proofs.lemmas.Option.{slice_get-map, same_Some as same_some}
 use Rattle.std.proofs.lemmas.List.{length-set, take-append-le, drop-set-lt}
 use Rattle.std.proofs.Math.Seq.{take-length}
 use Rattle.std.specs.Prelude.{◌⊎◌, if◌then◌else◌, map, nat_lt, not, option_map, slice_get, slice_index_or, slice_set, option_and_then, vec_items, Result, Err, Vec}
@@ -40,7 +40,6 @@ use Rattle.lc_core.specs.Pages.{areas_of}
 use Rattle.lc_core.specs.Paging.{HaltAll}
 use Rattle.lc_core.proofs.Devices.{honest_kept}
 use Rattle.lc_desk.specs.Places.{get_set_other, get_set_same}
-use Rattle.lc_settled.specs.Places.{same_some}
 use Rattle.lc_journal.specs.Records.{KeptRecords}
 use Rattle.lc_events.specs.Running.{FitsAll, FitsRunning}
 use Rattle.lc_desk.specs.Slots.{FitsSlots, besides_of}

@@ -1,4 +1,4 @@
--- Which replies an event may get at all, kind by kind.
+-- Of the store: which replies an event may get at all, kind by kind.
 use Rattle.std.proofs.Common.{◌≡◌, true, refl}
 use Rattle.std.specs.Prelude.{is_some}
 use Rattle.lc_model.specs.Refusals.{named}

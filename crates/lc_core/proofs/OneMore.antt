@@ -1,4 +1,4 @@
--- A run of several events: with a step after it, and as a run of the plain machine.
+-- Of the store: a run of several events: with a step after it, and as a run of the plain machine.
 use Rattle.std.proofs.Common.{◌≡◌, ℕ, ◌+◌, ◌<◌, true, List, [], ◌∷◌, ◌++◌, length, get_or, take, Some, refl, sym, ◌∙◌, ap, subst, inr}
 use Rattle.std.specs.Prelude.{slice_get}
 use Rattle.std.proofs.lemmas.List.{take_more}

@@ -2,7 +2,7 @@
 use Rattle.std.proofs.Common.{◌≡◌, ◌≢◌, ℕ, ◌+◌, ◌*◌, ◌%◌, ◌<◌, true, false, List, [], drop, length, Option, Some, None, refl, sym, ap, subst, ◌∙◌, arith}
 use Rattle.std.specs.Prelude.{slice_get, slice_index, slice_index_or, option_map, replicate}
 use Rattle.std.proofs.lemmas.List.{length-drop, length-replicate}
-use Rattle.std.proofs.lemmas.Option.{slice_get-map, slice_get_within, get_or_from_slice_get}
+use Rattle.std.proofs.lemmas.Option.{slice_get-map, slice_get_within, get_or_from_slice_get, same_Some as same_some}
 use Rattle.lc_disk.specs.declared.area.Area.{Ghosts}
 use Rattle.lc_record.specs.declared.geometry.Geometry.{Geometry}
 use Rattle.lc_record.proofs.ListLemmas.{slice_get-drop as at_drop}
@@ -13,7 +13,6 @@ use Rattle.lc_core.specs.Blank.{AreFilledNodes}
 use Rattle.lc_core.specs.Fresh.{IsFresh}
 use Rattle.lc_journal.specs.Log.{Stands, area_of, is_idle}
 use Rattle.lc_events.specs.Nodes.{AreWhole}
-use Rattle.lc_settled.specs.Places.{same_some}
 use Rattle.lc_events.specs.declared.node_state.NodeState.{NodeState}
 use Rattle.lc_events.specs.declared.running.Running.{Running}
 use Rattle.lc_desk.specs.Seat.{Free}

@@ -1,4 +1,4 @@
--- How the pages of the areas stand, where nothing changes them, and what is done beside them.
+-- Of the store: how the pages of the areas stand, where nothing changes them, and what is done beside them.
 use Rattle.std.proofs.Common.{◌≡◌, ◌+◌, List, map, sym, ap, ◌∙◌}
 use Rattle.std.specs.Prelude.{slice_get}
 use Rattle.std.specs.Global.{Vec}

@@ -1,10 +1,10 @@
--- What stands in a store that is made of pieces.
+-- Of the store: what stands in a store that is made of pieces.
 use Rattle.std.proofs.Common.{◌≡◌, ℕ, ◌+◌, ◌-◌, ◌*◌, true, false, List, length, Option, Some, None, refl, sym, ap, subst, ◌∙◌, inl, inr, arith}
 use Rattle.std.specs.Option.{ForSome}
 use Rattle.std.specs.Prelude.{option_map, slice_get, if◌then◌else◌}
 use Rattle.std.proofs.lemmas.Bool.{cases_eq, cases_lt, eq-eqb, le-ltb, lt-ltb, ne_eqb}
 use Rattle.std.proofs.lemmas.List.{length-replicate}
-use Rattle.std.proofs.lemmas.Option.{slice_get_within}
+use Rattle.std.proofs.lemmas.Option.{slice_get_within, same_Some as same_some}
 use Rattle.lc_disk.specs.declared.area.Area.{Ghosts}
 use Rattle.lc_record.specs.declared.geometry.Geometry.{Geometry}
 use Rattle.lc_record.proofs.ListLemmas.{slice_get_some as some_at, slice_get-map_some as get-map}
@@ -19,7 +19,6 @@ use Rattle.lc_core.specs.Made.{AreSegments}
 use Rattle.lc_desk.specs.Pieces.{AreLeftAt, AreTokens, IsMadeSlot, IsTokenOf, left_at, standing_at}
 use Rattle.lc_core.specs.Pieces.{AreLeftBy, AreMadeNodes, AreNodePieces, is_before, left_by}
 use Rattle.lc_events.specs.Pieces.{IsMadeNode}
-use Rattle.lc_settled.specs.Places.{same_some}
 use Rattle.lc_desk.specs.Seat.{Free}
 use Rattle.lc_journal.specs.declared.log.Log.{Log}
 use Rattle.lc_events.specs.declared.node_state.NodeState.{NodeState}

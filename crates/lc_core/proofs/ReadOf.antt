@@ -3,7 +3,7 @@ use Rattle.std.proofs.Common.{◌≡◌, ◌⊎◌, ℕ, zero, suc, ◌+◌, ◌
 use Rattle.std.specs.Prelude.{slice_get, slice_index_or}
 use Rattle.std.specs.Global.{Vec}
 use Rattle.std.proofs.lemmas.List.{get_or_past, length-map}
-use Rattle.std.proofs.lemmas.Option.{get_or_from_slice_get, slice_get_within}
+use Rattle.std.proofs.lemmas.Option.{get_or_from_slice_get, slice_get_within, same_Some as same_some}
 use Rattle.lc_disk.specs.declared.area.Area.{Ghosts}
 use Rattle.lc_model.specs.State.{Travelling}
 use Rattle.lc_record.specs.declared.record.Record.{Record}
@@ -22,7 +22,6 @@ use Rattle.lc_core.specs.Built.{IsBuiltOf}
 use Rattle.lc_core.specs.Cluster.{IsBuilt, IsReadCluster, knowns_of}
 use Rattle.lc_journal.specs.Kept.{closed_record}
 use Rattle.lc_rest.specs.Parts.{AreHonest, AreKept}
-use Rattle.lc_settled.specs.Places.{same_some}
 use Rattle.lc_reading.specs.ReadNodes.{IsReadPart, images_of}
 use Rattle.lc_record.specs.Lists.{items_of}
 use Rattle.lc_reading.specs.Readings.{FailsIn, KeepsAt, KeepsPictures, PassesIn, at_segment, no_token, place_of, read_of, tests_of}

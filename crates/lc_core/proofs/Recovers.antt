@@ -1,7 +1,8 @@
--- A step of a recovery answers by what it has made, whatever the areas hold.
+-- Of the store: a step of a recovery answers by what it has made, whatever the areas hold.
 use Rattle.std.proofs.Common.{◌≡◌, ◌⊎◌, ℕ, ◌+◌, ◌*◌, ◌<◌, ◌≤◌, Bool, true, false, List, map, Option, None, Some, refl, sym, ap, subst, ◌∙◌, inl, inr, arith}
 use Rattle.std.specs.Prelude.{if◌then◌else◌, slice_get, Result, Ok, Err, IfOk, IfErr, OnOk}
 use Rattle.std.proofs.lemmas.Result.{IfOk-from_err, IfOk-weaker}
+use Rattle.std.proofs.lemmas.Option.{same_Some as same_some}
 use Rattle.lc_disk.specs.declared.area.Area.{Ghosts}
 use Rattle.lc_record.specs.declared.geometry.Geometry.{Geometry}
 use Rattle.lc_model.specs.Merge.{StoreText, MergesTo}
@@ -22,7 +23,6 @@ use Rattle.lc_recover.specs.declared.fault.RecoverFault.TheVariants.{BadGeometry
 use Rattle.lc_recover.specs.declared.progress.Progress.{Progress}
 use Rattle.lc_recover.specs.declared.progress.Progress.TheVariants.{Stepped as HasStepped, Recovered as HasRecovered}
 use Rattle.lc_core.specs.Anew.{StartsAnew}
-use Rattle.lc_settled.specs.Places.{same_some}
 use Rattle.lc_recover.specs.Fault.{refusal_to}
 use Rattle.lc_core.specs.Recovering.{RepliesTo}
 use Rattle.lc_core.specs.Recovers.{AnswersRecovery, RecoversDown, RefusesAtOnce, at_once, is_recovery}

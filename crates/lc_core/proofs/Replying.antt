@@ -1,5 +1,6 @@
--- What a call of a store hands out is the reply to its event.
+-- Of the store: what a call of a store hands out is the reply to its event.
 use Rattle.std.proofs.Common.{◌≡◌, true, List, Option, Some, sym, subst}
+use Rattle.std.proofs.lemmas.Option.{same_Some as same_some}
 use Rattle.lc_disk.specs.declared.area.Area.{Ghosts}
 use Rattle.lc_disk.specs.declared.choice.Choice.{Choice}
 use Rattle.lc_model.specs.declared.event.Event.{Event}
@@ -12,7 +13,6 @@ use Rattle.lc_core.specs.Faults.{CountsPhase}
 use Rattle.lc_core.specs.Geometries.{RefusesOutside, phase_geometry}
 use Rattle.lc_core.specs.Lives.{Anyhow}
 use Rattle.lc_events.specs.MayReply.{may_reply}
-use Rattle.lc_settled.specs.Places.{same_some}
 use Rattle.lc_core.specs.Recovers.{RefusesAtOnce}
 use Rattle.lc_core.specs.Truncating.{StepsTo}
 use Rattle.lc_core.specs.World.{FollowsWorld}

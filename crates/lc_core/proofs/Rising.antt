@@ -7,7 +7,7 @@ use Rattle.std.proofs.Math.Nat.{le_refl}
 use Rattle.std.proofs.Math.Seq.{take-nil}
 use Rattle.std.proofs.lemmas.List.{append-nil, drop-drop, length-map, length-replicate, take-append-drop}
 use Rattle.std.proofs.lemmas.List.Elements.{All-nil}
-use Rattle.std.proofs.lemmas.Option.{get_or_from_slice_get, slice_get_within}
+use Rattle.std.proofs.lemmas.Option.{get_or_from_slice_get, slice_get_within, same_Some as same_some}
 use Rattle.lc_disk.specs.declared.area.Area.{Ghosts}
 use Rattle.lc_page.specs.PageVector.{entry_at, entry_text, new_entry, no_entry}
 use Rattle.lc_page.specs.declared.page_entry.PageEntry.{PageEntry}
@@ -47,7 +47,6 @@ use Rattle.lc_journal.specs.Journal.{FitsLog}
 use Rattle.lc_journal.specs.Log.{Stands, HasReset, is_failed, is_idle}
 use Rattle.lc_events.specs.NodeState.{FitsNode}
 use Rattle.lc_settled.specs.Numbers.{Numbers, recovered_numbers}
-use Rattle.lc_settled.specs.Places.{same_some}
 use Rattle.lc_journal.specs.Records.{KeptRecords}
 use Rattle.lc_events.specs.Running.{FitsRunning, FitsTravelling}
 use Rattle.lc_desk.specs.Slots.{Awaits, Besides, FitsSlot, FitsSlots, FitsToken, besides_of}

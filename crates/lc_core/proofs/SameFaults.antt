@@ -1,4 +1,4 @@
--- Why a cluster at rest is not adopted, handed on.
+-- Of the store: why a cluster at rest is not adopted, handed on.
 use Rattle.std.proofs.Common.{◌≡◌, ap, ◌∙◌}
 use Rattle.std.specs.Prelude.{Err, IsErrAnd, Result}
 use Rattle.std.proofs.lemmas.Result.{err_from_is_err_and}

@@ -1,4 +1,4 @@
--- What a slot at a node shows is what the machine and the numbers have there.
+-- Of the store: what a slot at a node shows is what the machine and the numbers have there.
 use Rattle.std.proofs.lemmas.Bool.{eq-eqb, leb-true, ltb-true, and_parts as and-both}
 use Rattle.std.proofs.Common.{◌≡◌, ℕ, suc, ◌+◌, true, false, List, Option, None, Some, refl, sym, ap, subst, ◌∙◌, arith}
 use Rattle.std.specs.Prelude.{◌&&◌, ◌==◌, ◌≤◌, nat_le, ◌<◌, if◌then◌else◌, option_map, slice_get, IsSome}

@@ -2,7 +2,7 @@
 use Rattle.std.proofs.Common.{◌≡◌, ◌+◌, ◌*◌, ℕ, zero, suc, Bool, true, false, List, [], ◌∷◌, ◌++◌, length, Some, refl, sym, ap, subst, ◌∙◌, inl, inr, arith}
 use Rattle.std.specs.Prelude.{slice_get, slice_set}
 use Rattle.std.proofs.lemmas.Bool.{cases_eq}
-use Rattle.std.proofs.lemmas.Option.{slice_get_within}
+use Rattle.std.proofs.lemmas.Option.{slice_get_within, same_Some as same_some}
 use Rattle.lc_disk.specs.declared.area.Area.{Ghosts}
 use Rattle.lc_recover.specs.Reads.{AreHonest}
 use Rattle.lc_core.specs.Areas.{AreOf}
@@ -15,7 +15,6 @@ use Rattle.lc_core.specs.HonestAreas.{HonestUp}
 use Rattle.lc_journal.specs.Log.{area_of}
 use Rattle.lc_core.specs.Pages.{areas_of}
 use Rattle.lc_desk.specs.Places.{get_set_other, get_set_same}
-use Rattle.lc_settled.specs.Places.{same_some}
 use Rattle.lc_events.specs.declared.node_state.NodeState.{NodeState}
 use Rattle.lc_core.specs.declared.world_phase.WorldPhase.TheVariants.{Up}
 use Rattle.lc_core.specs.declared.up.Up.{Up as Rising}

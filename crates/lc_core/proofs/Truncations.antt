@@ -1,4 +1,4 @@
--- Pieces of work that follow one another, up to the first refusal.
+-- Of the store: pieces of work that follow one another, up to the first refusal.
 use Rattle.std.specs.Prelude.{Option, Some, None, MatchOption, ◌⊎◌, ◌*◌}
 use Rattle.std.proofs.Common.{◌≡◌, ◌<◌, ◌≤◌, ◌+◌, ◌-◌, ℕ, zero, suc, true, false, refl, sym, ap, subst, arith, inl, inr, ◌∙◌}
 use Rattle.lc_disk.specs.declared.area.Area.{Ghosts}

@@ -3,7 +3,7 @@ use Rattle.std.proofs.Common.{◌≡◌, ℕ, suc, ◌+◌, Bool, false, not, Li
 use Rattle.std.specs.Prelude.{option_map, is_some, if◌then◌else◌}
 use Rattle.std.proofs.lemmas.Bool.{cases_eq}
 use Rattle.std.proofs.lemmas.List.{map-set}
-use Rattle.std.proofs.lemmas.Option.{slice_get-map}
+use Rattle.std.proofs.lemmas.Option.{slice_get-map, same_Some as same_some}
 use Rattle.lc_disk.specs.declared.area.Area.{Ghosts}
 use Rattle.lc_events.specs.CallReplies.{CalledAs}
 use Rattle.lc_model.specs.Machine.{Row}
@@ -28,7 +28,6 @@ use Rattle.lc_core.specs.Pages.{areas_of}
 use Rattle.lc_events.specs.Paging.{FollowsPaging, HaltsFailed}
 use Rattle.lc_core.specs.Paging.{HaltAll}
 use Rattle.lc_desk.specs.Places.{get_set_other, get_set_same, same_map_set}
-use Rattle.lc_settled.specs.Places.{same_some}
 use Rattle.lc_events.specs.Refuses.{Refuses}
 use Rattle.lc_settled.specs.Settled.{open_answer}
 use Rattle.lc_settled.specs.Turns.{Turns, numbers_after}

@@ -1,4 +1,4 @@
--- What the calls of a store hand out, as the replies to their events.
+-- Of the store: what the calls of a store hand out, as the replies to their events.
 use Rattle.std.specs.Prelude.{◌≡◌, ℕ, Bool, false, Option, Some, None, Result, Ok, Err}
 use Rattle.std.specs.declared.alloc.AllocError.{AllocError}
 use Rattle.lc_disk.specs.declared.area.Area.{Ghosts}

@@ -1,4 +1,4 @@
--- What the pieces of a store are that is built of the parts of a cluster at rest.
+-- Of the store: what the pieces of a store are that is built of the parts of a cluster at rest.
 use Rattle.std.specs.Prelude.{◌≡◌, ℕ, ◌+◌, List, map, drop, length, Option, Some, slice_get, slice_index_or}
 use Rattle.lc_disk.specs.declared.area.Area.{Ghosts}
 use Rattle.lc_rest.specs.Passed.{Read, log_of}

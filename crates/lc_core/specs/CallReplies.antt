@@ -1,4 +1,4 @@
--- Which events and replies tell of a call of an area, and of which area.
+-- Of the store: which events and replies tell of a call of an area, and of which area.
 use Rattle.std.specs.Prelude.{◌≡◌, ⊤, ℕ, ◌+◌, ◌-◌, Bool}
 use Rattle.lc_record.specs.declared.geometry.Geometry.{Geometry}
 use Rattle.lc_model.specs.declared.event.Event.{Event}

@@ -1,4 +1,5 @@
--- How a transaction ends, layer by layer of a store: it gets its place in the log, and its record is closed there.
+-- Of the store: how a transaction ends, layer by layer of a store: it gets its place in the log, and its record is
+-- closed there.
 use Rattle.std.specs.Prelude.{ℕ, Result}
 use Rattle.lc_disk.specs.declared.area.Area.{Ghosts}
 use Rattle.lc_model.specs.declared.event.Event.TheVariants.{Close, Reserve}

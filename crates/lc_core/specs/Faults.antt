@@ -1,4 +1,4 @@
--- How often the devices of a store have failed, and what its replies tell of it.
+-- Of the store: how often the devices of a store have failed, and what its replies tell of it.
 use Rattle.std.specs.Prelude.{◌≡◌, ℕ, List, [], ◌∷◌, ◌++◌, map, Option, Some}
 use Rattle.lc_disk.specs.declared.area.Area.{Ghosts}
 use Rattle.lc_model.specs.declared.reply.Reply.{Reply}

@@ -1,4 +1,4 @@
--- What comes up after a recovery.
+-- Of the store: what comes up after a recovery.
 use Rattle.std.specs.Prelude.{◌≡◌, ◌≤◌, ℕ, ◌+◌, true, [], length, replicate, Some, None, slice_get}
 use Rattle.lc_disk.specs.declared.area.Area.{Ghosts}
 use Rattle.lc_page.specs.declared.page_text.PageText.{PageText}

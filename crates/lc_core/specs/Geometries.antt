@@ -1,4 +1,4 @@
--- The geometry of a store, and what it refuses as unknown.
+-- Of the store: the geometry of a store, and what it refuses as unknown.
 use Rattle.std.specs.Prelude.{◌≢◌, Option, None, Some}
 use Rattle.lc_disk.specs.declared.area.Area.{Ghosts}
 use Rattle.lc_record.specs.declared.geometry.Geometry.{Geometry}

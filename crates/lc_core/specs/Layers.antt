@@ -1,4 +1,4 @@
--- What an event does that a node's thread asks for, layer by layer of a store.
+-- Of the store: what an event does that a node's thread asks for, layer by layer of a store.
 use Rattle.std.specs.Prelude.{◌≡◌, true, Result, IfOk, OnErr}
 use Rattle.std.specs.declared.alloc.AllocError.{AllocError}
 use Rattle.lc_disk.specs.declared.area.Area.{Ghosts}

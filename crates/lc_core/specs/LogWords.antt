@@ -1,4 +1,4 @@
--- What is shown of the log of a node, and what stays as it was.
+-- Of the store: what is shown of the log of a node, and what stays as it was.
 use Rattle.std.specs.Prelude.{◌≡◌, ℕ, ◌<◌, ◌⊎◌, nat_lt, Bool, true, List, [], drop, take, Option, None, Some, MatchBool, if◌then◌else◌, slice_get}
 use Rattle.lc_disk.specs.declared.area.Area.{Ghosts}
 use Rattle.lc_record.specs.Words.{words_of}

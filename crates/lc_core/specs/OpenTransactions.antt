@@ -1,4 +1,4 @@
--- Which transaction a thread has open, and how many threads there are.
+-- Of the store: which transaction a thread has open, and how many threads there are.
 use Rattle.std.specs.Prelude.{ℕ, Option, None, Some, slice_get}
 use Rattle.lc_disk.specs.declared.area.Area.{Ghosts}
 use Rattle.lc_tx.specs.declared.tx.Tx.{Tx}

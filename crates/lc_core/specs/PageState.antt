@@ -1,4 +1,4 @@
--- How the writes of the pages of a segment stand.
+-- Of the store: how the writes of the pages of a segment stand.
 use Rattle.std.specs.Prelude.{◌≡◌, ℕ, List, replicate, Some, slice_get}
 use Rattle.std.specs.Global.{Vec}
 use Rattle.lc_record.specs.declared.geometry.Geometry.{Geometry}

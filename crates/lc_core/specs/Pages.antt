@@ -1,4 +1,4 @@
--- The areas of the segments and the writes of their pages, against the numbers.
+-- Of the store: the areas of the segments and the writes of their pages, against the numbers.
 use Rattle.std.specs.Prelude.{◌≡◌, ℕ, List, map, Some, slice_get}
 use Rattle.lc_disk.specs.declared.area.Area.{Ghosts}
 use Rattle.lc_record.specs.declared.geometry.Geometry.{Geometry}

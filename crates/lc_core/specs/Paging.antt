@@ -1,4 +1,5 @@
--- What it is that the step of a page write follows the machine and the numbers, at a node and in a segment's area.
+-- Of the store: what it is that the step of a page write follows the machine and the numbers, at a node and in a
+-- segment's area.
 use Rattle.std.specs.Prelude.{◌≡◌, ℕ, ◌+◌, List, Some, slice_get}
 use Rattle.lc_disk.specs.declared.area.Area.{Ghosts}
 use Rattle.lc_model.specs.State.{State}

@@ -1,4 +1,4 @@
--- The pieces that a store is made of, and how they stand in it.
+-- Of the store: the pieces that a store is made of, and how they stand in it.
 use Rattle.std.specs.Prelude.{◌≡◌, ℕ, nat_lt, Bool, false, List, Option, Some, None, slice_get, if◌then◌else◌}
 use Rattle.lc_disk.specs.declared.area.Area.{Ghosts}
 use Rattle.lc_record.specs.declared.geometry.Geometry.{Geometry}

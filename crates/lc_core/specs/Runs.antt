@@ -1,4 +1,4 @@
--- What it is that a store follows the machine and the numbers over a list of events.
+-- Of the store: what it is that a store follows the machine and the numbers over a list of events.
 use Rattle.std.specs.Prelude.{◌≡◌, ◌⊎◌, true, List, [], length, take, Some, slice_get}
 use Rattle.lc_disk.specs.declared.area.Area.{Ghosts}
 use Rattle.lc_record.specs.Content.{Content}

@@ -1,4 +1,4 @@
--- What a node's image of a segment shows.
+-- Of the store: what a node's image of a segment shows.
 use Rattle.std.specs.Prelude.{◌≡◌, ℕ, ◌-◌, ◌≤◌, List, slice_get, Some, if◌then◌else◌}
 use Rattle.lc_disk.specs.declared.area.Area.{Ghosts}
 use Rattle.lc_record.specs.Content.{segment_of}

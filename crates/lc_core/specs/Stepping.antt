@@ -1,4 +1,4 @@
--- What it is that a running store follows the machine and the numbers, step by step.
+-- Of the store: what it is that a running store follows the machine and the numbers, step by step.
 use Rattle.std.specs.Prelude.{Bool, is_some}
 use Rattle.lc_model.specs.Refusals.{named}
 use Rattle.lc_model.specs.declared.event.Event.{Event}

@@ -1,5 +1,5 @@
--- What a truncation of a node's log is: its flush, the writes of the pages that are due, none of which begins where one is blocked,
--- and its reset, up to the first refusal.
+-- Of the store: what a truncation of a node's log is: its flush, the writes of the pages that are due, none of which
+-- begins where one is blocked, and its reset, up to the first refusal.
 use Rattle.std.specs.Prelude.{◌≡◌, ℕ, ◌+◌, ◌-◌, ◌<◌, ◌⊎◌, Bool, true, false, Option, Some, None, MatchOption, slice_get, suc, zero}
 use Rattle.lc_disk.specs.declared.area.Area.{Ghosts}
 use Rattle.lc_model.specs.declared.event.Event.{Event}

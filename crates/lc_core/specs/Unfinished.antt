@@ -1,4 +1,4 @@
--- What a stop of a store would lose.
+-- Of the store: what a stop of a store would lose.
 use Rattle.lc_disk.specs.declared.area.Area.{Ghosts}
 use Rattle.lc_core.specs.declared.world_phase.WorldPhase.{WorldPhase}
 use Rattle.lc_core.specs.declared.world_phase.WorldPhase.TheVariants.{Down, Up, Taken}

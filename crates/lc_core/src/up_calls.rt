@@ -1,21 +1,16 @@
-//! The calls of a store that is up.
-ghost use Rattle.lc_model.specs.declared.event.Event.TheVariants.{Begin, SetRange, Write, Read, Abort, Close, Reserve};
-ghost use Rattle.lc_model.specs.declared.event.Event.TheVariants.{PageStep};
-ghost use Rattle.lc_core.specs.Layers.{StepsUp, TriesUp};
-ghost use Rattle.std.specs.Prelude.{◌≡◌, IfErr, IfOk, length, true, OnErr};
-ghost use Rattle.lc_model.specs.declared.reply.Reply.TheVariants.{Bytes, Refused};
-ghost use Rattle.lc_core.specs.EndCalls.{EndsUp};
+//! The calls of a store that is up, and its events.
+ghost use Rattle.std.specs.Prelude.{◌≡◌, ℕ, IfErr, IfOk, length, true};
 ghost use Rattle.lc_model.specs.State.{Setting};
-ghost use Rattle.lc_core.specs.Calls.{CallsArea, KeepsAreas};
-ghost use Rattle.lc_core.specs.Faults.{CountsPhase, phase_failures};
-ghost use Rattle.lc_events.specs.Geometries.{RefusesUnknown};
-ghost use Rattle.lc_events.specs.MayReply.{may_reply};
+ghost use Rattle.lc_model.specs.declared.event.Event.TheVariants.{Begin, SetRange, Write, Read, Abort, Close, Reserve};
+ghost use Rattle.lc_model.specs.declared.event.Event.TheVariants.{FlushStep, Leave, Arrive, Deliver, Trim};
+ghost use Rattle.lc_model.specs.declared.event.Event.TheVariants.{PageStep, ResetStep};
+ghost use Rattle.lc_model.specs.declared.reply.Reply.TheVariants.{Bytes, Refused};
 ghost use Rattle.lc_settled.specs.Numbers.{Numbers};
 ghost use Rattle.lc_desk.specs.Pages.{FitsPages};
-ghost use Rattle.lc_events.specs.Stepping.{AsksMemory, TellsWriting};
+ghost use Rattle.lc_events.specs.Stepping.{TellsWriting};
+ghost use Rattle.lc_core.specs.EndCalls.{EndsUp};
+ghost use Rattle.lc_core.specs.Layers.{StepsUp, TriesUp};
 ghost use Rattle.lc_core.specs.Stepping.{works_up};
-ghost use Rattle.lc_core.specs.World.{FollowsUp, StillFitsUp};
-ghost use Rattle.lc_core.specs.declared.world_phase.WorldPhase.TheVariants.{Up as IsUp};
 
 use crate::up::Up;
 use lc_disk::Area;
@@ -83,6 +78,21 @@ impl<D: Area + Drop> Up<D> {
         self.running.bytes(node, thread, segment, offset, len)
     }
 
+    /// A thread of a node reads bytes. It takes memory for them where it is not refused; no bytes take none.
+    pub(crate) fn read(
+        &mut self,
+        alloc: Global,
+        node: u16,
+        thread: u16,
+        segment: u32,
+        offset: u32,
+        len: u32,
+    ) -> Result<Reply, AllocError>
+        ensures { TriesUp D.Area self.old (Read node thread segment offset len) result self.new }
+    {
+        self.running.read(alloc, node, thread, segment, offset, len)
+    }
+
     /// A thread of a node drops its transaction. It takes no memory.
     pub(crate) fn abort(&mut self, node: u16, thread: u16) -> Reply
         ensures { StepsUp D.Area self.old (Abort node thread) result self.new }
@@ -123,48 +133,61 @@ impl<D: Area + Drop> Up<D> {
         self.running.end(alloc, node, thread)
     }
 
-    /// An event that is no stop and no step of a recovery. Where memory is wanted nothing has changed.
-    pub(crate) fn step(&mut self, alloc: Global, event: &Event) -> Result<Reply, AllocError>
-        requires up { works_up event.now ≡ true }
-        ensures follows { IfOk result (λ reply. FollowsUp D.Area self.old event.now reply self.new) }
-        ensures memory { OnErr result (AsksMemory D.Area self.old.running event.now) }
-        ensures err { OnErr result (StillFitsUp D.Area self.old self.new) }
-        ensures faults { IfOk result (λ reply. CountsPhase D.Area (IsUp self.old) reply (IsUp self.new)) }
-        ensures no_fault { OnErr result (phase_failures D.Area (IsUp self.new)
-            ≡ phase_failures D.Area (IsUp self.old)) }
-        ensures geometry { self.new.running.geometry ≡ self.old.running.geometry }
-        ensures unknown { IfOk result (RefusesUnknown self.old.running.geometry event.now) }
-        ensures names { IfOk result (λ reply. may_reply event.now reply ≡ true) }
-        ensures calls { IfOk result (λ reply. CallsArea D.Area (IsUp self.old) event.now reply (IsUp self.new)) }
-        ensures kept { OnErr result (KeepsAreas D.Area (IsUp self.old) (IsUp self.new)) }
+    /// One step of a flush of a node's log. It takes no memory.
+    pub(crate) fn flush_step(&mut self, node: u16) -> Reply
+        ensures { StepsUp D.Area self.old (FlushStep node) result self.new }
     {
-        if let Event::PageStep {
-            node,
-            segment,
-            page,
-        } = event
-        {
-            return Ok(self.page_step(*node, *segment, *page));
-        }
-        let writing = self.is_writing(event);
-        self.running.step(alloc, event, writing)
+        self.running.flush_step(node)
     }
 
-    // One of the six device calls of a page write.
-    fn page_step(&mut self, node: u16, segment: u32, page: u32) -> Reply
-        ensures follows { FollowsUp D.Area self.old (PageStep node segment page) result self.new }
-        ensures faults { CountsPhase D.Area (IsUp self.old) result (IsUp self.new) }
-        ensures geometry { self.new.running.geometry ≡ self.old.running.geometry }
-        ensures unknown { RefusesUnknown self.old.running.geometry (PageStep node segment page) result }
-        ensures names { may_reply (PageStep node segment page) result ≡ true }
-        ensures calls { CallsArea D.Area (IsUp self.old) (PageStep node segment page) result (IsUp self.new) }
+    /// One of the four steps that empty a node's log. It takes no memory.
+    pub(crate) fn reset_step(&mut self, node: u16) -> Reply
+        ensures { StepsUp D.Area self.old (ResetStep node) result self.new }
     {
-        let event = Event::PageStep {
-            node,
-            segment,
-            page,
-        };
-        if let Some(refusal) = self.running.refusal(&event) {
+        self.running.reset_step(node)
+    }
+
+    /// The token of a segment leaves a node, unless a page of the segment is being written. It takes no memory.
+    pub(crate) fn leave(&mut self, node: u16, segment: u32) -> Reply
+        ensures { StepsUp D.Area self.old (Leave node segment) result self.new }
+    {
+        let writing = self.is_writing(segment);
+        self.running.leave(node, segment, writing)
+    }
+
+    /// The token of a segment that is on its way arrives at a node. It takes no memory.
+    pub(crate) fn arrive(&mut self, node: u16, segment: u32) -> Reply
+        ensures { StepsUp D.Area self.old (Arrive node segment) result self.new }
+    {
+        self.running.arrive(node, segment)
+    }
+
+    /// A record of a node comes to another, for one segment.
+    pub(crate) fn deliver(
+        &mut self,
+        alloc: Global,
+        sender: u16,
+        number: u64,
+        segment: u32,
+        to: u16,
+    ) -> Result<Reply, AllocError>
+        ensures { TriesUp D.Area self.old (Deliver sender number segment to) result self.new }
+    {
+        self.running.deliver(alloc, sender, number, segment, to)
+    }
+
+    /// A node drops of its published records those in front that every node has applied. It takes no memory.
+    pub(crate) fn trim(&mut self, node: u16) -> Reply
+        ensures { StepsUp D.Area self.old (Trim node) result self.new }
+    {
+        self.running.trim(node)
+    }
+
+    /// One of the six device calls of a page write. It takes no memory.
+    pub(crate) fn page_step(&mut self, node: u16, segment: u32, page: u32) -> Reply
+        ensures { StepsUp D.Area self.old (PageStep node segment page) result self.new }
+    {
+        if let Some(refusal) = self.running.page_refusal(node, segment, page) {
             return Reply::Refused(refusal);
         }
         let place = segment as usize - 1;
@@ -172,15 +195,68 @@ impl<D: Area + Drop> Up<D> {
         self.running.page_step(node, segment, page, pages)
     }
 
-    // Whether a page is being written of the segment whose token is to leave.
-    fn is_writing(&self, event: &Event) -> bool
-        ensures { (m : Setting) (x : Numbers) → FitsPages D.Area m self.now.segments.items x
-            → TellsWriting m x event.now result }
+    /// An event that is no stop and no step of a recovery. Where memory is wanted nothing has changed.
+    pub(crate) fn step(&mut self, alloc: Global, event: &Event) -> Result<Reply, AllocError>
+        requires up { works_up event.now ≡ true }
+        ensures { TriesUp D.Area self.old event.now result self.new }
     {
-        let Event::Leave { segment, .. } = event else {
-            return false;
-        };
-        let Some(place) = (*segment as usize).checked_sub(1) else {
+        match event {
+            Event::Begin {
+                node,
+                thread,
+                segments,
+                reading,
+            } => Ok(self.begin(*node, *thread, segments.as_slice(), reading.as_slice())),
+            Event::SetRange {
+                node,
+                thread,
+                segment,
+                offset,
+                len,
+            } => self.set_range(*node, *thread, *segment, *offset, *len),
+            Event::Write {
+                node,
+                thread,
+                segment,
+                offset,
+                bytes,
+            } => Ok(self.write(*node, *thread, *segment, *offset, bytes.as_slice())),
+            Event::Read {
+                node,
+                thread,
+                segment,
+                offset,
+                len,
+            } => self.read(alloc, *node, *thread, *segment, *offset, *len),
+            Event::Abort { node, thread } => Ok(self.abort(*node, *thread)),
+            Event::Reserve { node, thread } => self.reserve(alloc, *node, *thread),
+            Event::Close { node, thread } => Ok(self.close(*node, *thread)),
+            Event::FlushStep { node } => Ok(self.flush_step(*node)),
+            Event::Leave { node, segment } => Ok(self.leave(*node, *segment)),
+            Event::Arrive { node, segment } => Ok(self.arrive(*node, *segment)),
+            Event::Deliver {
+                sender,
+                number,
+                segment,
+                to,
+            } => self.deliver(alloc, *sender, *number, *segment, *to),
+            Event::Trim { node } => Ok(self.trim(*node)),
+            Event::PageStep {
+                node,
+                segment,
+                page,
+            } => Ok(self.page_step(*node, *segment, *page)),
+            Event::ResetStep { node } => Ok(self.reset_step(*node)),
+            Event::Stop { .. } | Event::RecoverStep => unreachable!(),
+        }
+    }
+
+    // Whether a page is being written of this segment.
+    fn is_writing(&self, segment: u32) -> bool
+        ensures { (m : Setting) (x : Numbers) (node : ℕ) → FitsPages D.Area m self.now.segments.items x
+            → TellsWriting m x (Leave node segment) result }
+    {
+        let Some(place) = (segment as usize).checked_sub(1) else {
             return false;
         };
         match self.segments.get(place) {

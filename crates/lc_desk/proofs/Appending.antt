@@ -1,9 +1,10 @@
--- A transaction that gets its place in the log, at a node's desk.
+-- Of a desk: a transaction that gets its place in the log, at a node's desk.
 use Rattle.std.proofs.Common.{◌≡◌, ◌≢◌, ℕ, zero, suc, Bool, true, false, List, [], ◌∷◌, ◌++◌, map, find, length, All, Some, None, refl, sym, ap, subst, ◌∙◌, inl, inr}
 use Rattle.std.specs.Prelude.{slice_get, slice_set, if◌then◌else◌}
 use Rattle.std.proofs.lemmas.Bool.{cases_eq, false_from_ne_true, eq-eqb}
 use Rattle.std.proofs.lemmas.List.{length-set}
 use Rattle.std.proofs.lemmas.List.Elements.{All-head, All-tail}
+use Rattle.std.proofs.lemmas.Option.{same_Some as same_some}
 use Rattle.lc_record.specs.Content.{Content, segment_of}
 use Rattle.lc_record.specs.Transaction.{Transaction, is_member, effect}
 use Rattle.lc_record.proofs.ListLemmas.{slice_get_push as get-end}
@@ -26,7 +27,6 @@ use Rattle.lc_tx.proofs.HoldsLemmas.{held_cases}
 use Rattle.lc_tx.proofs.StandsLemmas.{unwritten}
 use Rattle.lc_desk.specs.Here.{the_images}
 use Rattle.lc_desk.specs.Places.{get_set_same, get_set_other}
-use Rattle.lc_settled.specs.Places.{same_some}
 use Rattle.lc_desk.specs.Seat.{Seat, Free, Open, Reserved, holder_of}
 use Rattle.lc_desk.specs.Seats.{Runs, AllRun}
 use Rattle.lc_desk.specs.Desk.{IsOpen, IsReserved, FitsSeat, FitsDesk, Sits}

@@ -3,6 +3,7 @@ use Rattle.std.proofs.Common.{◌≡◌, ℕ, suc, ◌<◌, ◌≤◌, ◌-◌, 
 use Rattle.std.specs.Prelude.{slice_get, ◌↔◌, OnOk, OnErr, Result, Ok, Err}
 use Rattle.std.specs.Vec.{with_item}
 use Rattle.std.proofs.lemmas.Bool.{cases_lt}
+use Rattle.std.proofs.lemmas.Option.{same_Some as same_some}
 use Rattle.lc_record.specs.Content.{segment_of}
 use Rattle.lc_model.specs.History.{value}
 use Rattle.lc_model.specs.Machine.{placed}
@@ -16,7 +17,6 @@ use Rattle.lc_desk.specs.Here.{number_in, number_at}
 use Rattle.lc_desk.specs.Seats.{AllRun}
 use Rattle.lc_desk.specs.Desk.{FitsDesk}
 use Rattle.lc_desk.specs.Leaves.{with_token}
-use Rattle.lc_settled.specs.Places.{same_some}
 use Rattle.lc_desk.specs.Arrives.{Waits, Arrives}
 use Rattle.lc_desk.specs.declared.desk.Desk.{Desk}
 use Rattle.lc_desk.specs.declared.here.Here.{Here}

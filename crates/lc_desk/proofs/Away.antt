@@ -4,7 +4,7 @@ use Rattle.std.specs.Prelude.{slice_get, slice_set, slice_index_or, vec_len, IsS
 use Rattle.std.specs.Vec.{with_item}
 use Rattle.std.proofs.lemmas.Bool.{cases_eq}
 use Rattle.std.proofs.lemmas.List.{map-set}
-use Rattle.std.proofs.lemmas.Option.{slice_get_read}
+use Rattle.std.proofs.lemmas.Option.{slice_get_read, same_Some as same_some}
 use Rattle.lc_model.specs.History.{value}
 use Rattle.lc_model.specs.State.{Setting, State}
 use Rattle.lc_token.specs.Standing.{Standing}
@@ -19,7 +19,6 @@ use Rattle.lc_desk.specs.Desk.{FitsDesk}
 use Rattle.lc_desk.specs.Here.{the_images, number_in, number_at, image_at, beside}
 use Rattle.lc_desk.specs.Leaves.{IsAsBefore}
 use Rattle.lc_desk.specs.Places.{get_set_other, get_set_same}
-use Rattle.lc_settled.specs.Places.{same_some}
 use Rattle.lc_desk.specs.Seat.{Seat, holder_of}
 use Rattle.lc_desk.specs.Seats.{Runs, AllRun, AreShort}
 use Rattle.lc_desk.specs.Slots.{AreInPlace, Besides, besides_of}

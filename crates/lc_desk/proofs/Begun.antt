@@ -4,6 +4,7 @@ use Rattle.std.specs.Prelude.{◌↔◌, slice_get, slice_set, Result, Err, if�
 use Rattle.std.specs.List.{list_all}
 use Rattle.std.proofs.lemmas.Bool.{cases_eq, cases_Bool, or_cases, or_left, or_right, false≢true, and_parts as and-both}
 use Rattle.std.proofs.lemmas.List.{length-set, length-map, length-replicate}
+use Rattle.std.proofs.lemmas.Option.{same_Some as same_some}
 use Rattle.lc_record.specs.Content.{Content, segment_of}
 use Rattle.lc_record.specs.Transaction.{Transaction, is_member}
 use Rattle.lc_record.specs.Geometry.{segment_len}
@@ -37,7 +38,6 @@ use Rattle.lc_tx.proofs.MemberLemmas.{not_both, member_both}
 use Rattle.lc_tx.proofs.StandsLemmas.{begun_stands}
 use Rattle.lc_tx.proofs.AscendLemmas.{set_is_ascending}
 use Rattle.lc_desk.specs.Places.{get_set_same, get_set_other}
-use Rattle.lc_settled.specs.Places.{same_some}
 use Rattle.lc_desk.specs.declared.here.Here.{Here}
 use Rattle.lc_desk.specs.Seat.{Seat, Free, Open, Reserved, holder_of, is_free}
 use Rattle.lc_desk.specs.Refused.{refusal_of}

@@ -5,6 +5,7 @@ use Rattle.std.specs.Option.{ForSome}
 use Rattle.std.proofs.lemmas.Bool.{false_from_ne_true, le-leb}
 use Rattle.std.proofs.lemmas.List.{map-set}
 use Rattle.std.proofs.lemmas.List.Elements.{All-cons, All-filter}
+use Rattle.std.proofs.lemmas.Option.{same_Some as same_some}
 use Rattle.lc_record.specs.Part.{number_in, part_of}
 use Rattle.lc_record.specs.Transaction.{is_member}
 use Rattle.lc_record.specs.declared.part.Part.{Part}
@@ -25,7 +26,6 @@ use Rattle.lc_model.specs.declared.reply.Reply.TheVariants.{Applied as IsApplied
 use Rattle.lc_desk.specs.Desk.{FitsDesk}
 use Rattle.lc_desk.specs.Here.{number_in as seq_in, hidden, beside}
 use Rattle.lc_settled.specs.Numbers.{Numbers, token_number, reached}
-use Rattle.lc_settled.specs.Places.{same_some}
 use Rattle.lc_desk.specs.Receives.{CatchesUp, IsNew, parts_over, received_numbers, reply_of}
 use Rattle.lc_settled.specs.Settled.{receive_answer}
 use Rattle.lc_desk.specs.Slots.{Awaits, Besides, FitsSlot, FitsSlots, besides_of, segment_to}

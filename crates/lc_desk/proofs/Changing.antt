@@ -3,6 +3,7 @@ use Rattle.std.proofs.Common.{◌≡◌, ◌≢◌, ℕ, true, List, [], ◌∷�
 use Rattle.std.specs.Prelude.{slice_get, slice_set, IsSome}
 use Rattle.std.proofs.lemmas.Bool.{cases_eq, cases_Bool}
 use Rattle.std.proofs.lemmas.List.{length-set}
+use Rattle.std.proofs.lemmas.Option.{same_Some as same_some}
 use Rattle.lc_record.specs.Transaction.{Transaction, is_member}
 use Rattle.lc_record.proofs.SegmentLemmas.{length-put}
 use Rattle.lc_model.specs.History.{value}
@@ -22,7 +23,6 @@ use Rattle.lc_tx.proofs.BesideLemmas.{runs_beside, apart_keeps}
 use Rattle.lc_tx.proofs.HolderLemmas.{writer_is_some}
 use Rattle.lc_tx.proofs.MemberLemmas.{is_one}
 use Rattle.lc_desk.specs.Places.{get_set_same, get_set_other}
-use Rattle.lc_settled.specs.Places.{same_some}
 use Rattle.lc_desk.specs.declared.here.Here.{Here}
 use Rattle.lc_desk.specs.Seat.{Seat, Open, open_of, holder_of}
 use Rattle.lc_desk.specs.Here.{the_images}

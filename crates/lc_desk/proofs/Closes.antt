@@ -1,4 +1,4 @@
--- A reservation that is closed, and a transaction that set nothing and is over, at a node's desk.
+-- Of a desk: a reservation that is closed, and a transaction that set nothing and is over, at a node's desk.
 use Rattle.std.proofs.Common.{◌≡◌, ◌≢◌, ℕ, true, false, List, [], map, find, length, Some, None, refl, sym, ap, subst, ◌∙◌, inl, inr}
 use Rattle.std.specs.Prelude.{slice_get, slice_set, if◌then◌else◌}
 use Rattle.std.proofs.lemmas.Bool.{false_from_ne_true}

@@ -1,4 +1,5 @@
--- A record that is closed: what it makes of the tokens' numbers, of the node's slots, and of those of the others.
+-- Of a desk: a record that is closed: what it makes of the tokens' numbers, of the node's slots, and of those of the
+-- others.
 use Rattle.std.proofs.Common.{◌≡◌, ℕ, ◌+◌, ◌-◌, ◌<◌, ◌≤◌, Bool, true, false, List, [], ◌∷◌, sym, inl, inr, arith, true≢false}
 use Rattle.std.specs.Prelude.{◌&&◌, ◌==◌, nat_lt}
 use Rattle.std.specs.List.{list_any}

@@ -1,8 +1,8 @@
--- A desk whose slots have counted a record stands as before for its transactions.
+-- Of a desk: a desk whose slots have counted a record stands as before for its transactions.
 use Rattle.std.proofs.Common.{◌≡◌, ℕ, zero, suc, ◌+◌, ◌≤◌, Bool, true, false, List, [], map, length, Option, Some, None, refl, sym, ap, subst, ◌∙◌, inl, inr, arith}
 use Rattle.std.specs.Prelude.{slice_get, is_some, option_map, IsTrue, MatchOption, vec_len}
 use Rattle.std.proofs.lemmas.Bool.{cases_Bool, MatchBool-at_true, MatchBool-at_false}
-use Rattle.std.proofs.lemmas.Option.{slice_get-map}
+use Rattle.std.proofs.lemmas.Option.{slice_get-map, same_Some as same_some}
 use Rattle.lc_range.specs.declared.range.Range.{Range}
 use Rattle.lc_record.specs.declared.part.Part.{Part}
 use Rattle.lc_record.proofs.ListLemmas.{slice_get-map_some as get-map}
@@ -15,7 +15,6 @@ use Rattle.lc_tx.specs.declared.tx.Tx.{Tx}
 use Rattle.lc_tx.proofs.BesideLemmas.{runs_beside}
 use Rattle.lc_desk.specs.Counts.{Counts, CountsAll, CountsSlot, countable, countable_in, names}
 use Rattle.lc_desk.specs.Here.{the_images, number_in, number_at, image_at, beside}
-use Rattle.lc_settled.specs.Places.{same_some}
 use Rattle.lc_desk.specs.Seat.{Seat}
 use Rattle.lc_desk.specs.Seats.{AllRun, AreShort}
 use Rattle.lc_desk.specs.Slots.{AreInPlace, Besides, besides_of}

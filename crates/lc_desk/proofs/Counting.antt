@@ -3,7 +3,7 @@ use Rattle.std.proofs.Common.{◌≡◌, ◌≢◌, ◌⊎◌, inl, inr, ◌<◌
 use Rattle.std.proofs.lemmas.Bool.{both_ways, cases_Bool, cases_eq, eq-eqb, eqb-true, ne_eqb, or_cases, MatchBool-at_true, MatchBool-at_false, or_parts as or_clear}
 use Rattle.std.proofs.lemmas.List.{length-set}
 use Rattle.std.proofs.lemmas.List.Folds.{list_any-append}
-use Rattle.std.proofs.lemmas.Option.{slice_get_within as within}
+use Rattle.std.proofs.lemmas.Option.{slice_get_within as within, same_Some as same_some}
 use Rattle.std.specs.Prelude.{slice_set, slice_get, Option, MatchBool, MatchOption}
 use Rattle.std.proofs.Math.Bool.{or-false as or_none, or-true as or_set}
 use Rattle.lc_page.specs.declared.page_entry.PageEntry.{PageEntry}
@@ -13,7 +13,6 @@ use Rattle.lc_range.specs.RangeSet.{IsCanonical, LiesBefore}
 use Rattle.lc_token.specs.Standing.{Standing}
 use Rattle.lc_token.specs.declared.token.Token.{Token}
 use Rattle.lc_record.proofs.ListLemmas.{slice_get_some as there}
-use Rattle.lc_settled.specs.Places.{same_some}
 use Rattle.lc_desk.specs.Places.{get_set_other, get_set_same}
 use Rattle.lc_desk.specs.declared.segment_copy.SegmentCopy.{SegmentCopy}
 use Rattle.lc_desk.specs.Counts.{Counts, CountsAll, CountsSlot, CountsToken, TouchesSlot, TouchesToken, countable, counting, is_on, names, names_page}

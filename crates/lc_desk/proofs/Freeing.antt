@@ -3,6 +3,7 @@ use Rattle.std.proofs.Common.{◌≡◌, ◌≢◌, ℕ, true, false, not, ◌&&
 use Rattle.std.specs.Prelude.{slice_get, slice_set, IsSome}
 use Rattle.std.proofs.lemmas.Bool.{cases_eq, cases_Bool, eq-eqb, and_parts}
 use Rattle.std.proofs.lemmas.List.{length-set}
+use Rattle.std.proofs.lemmas.Option.{same_Some as same_some}
 use Rattle.lc_record.specs.Content.{Content, segment_of}
 use Rattle.lc_record.specs.Transaction.{is_member}
 use Rattle.lc_record.specs.Geometry.{segment_len}
@@ -17,7 +18,6 @@ use Rattle.lc_tx.specs.declared.tx.Tx.{Tx}
 use Rattle.lc_tx.proofs.BesideLemmas.{runs_beside, freed_keeps}
 use Rattle.lc_tx.proofs.MemberLemmas.{not_both}
 use Rattle.lc_desk.specs.Places.{get_set_other}
-use Rattle.lc_settled.specs.Places.{same_some}
 use Rattle.lc_desk.specs.Here.{the_images}
 use Rattle.lc_desk.specs.Seat.{Seat, Free, holder_of}
 use Rattle.lc_desk.specs.Seats.{Runs, AllRun}

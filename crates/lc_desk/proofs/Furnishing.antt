@@ -1,11 +1,11 @@
--- Lists that are made or filled item by item, and what a desk has whose slots are of their segments.
+-- Of a desk: lists that are made or filled item by item, and what a desk has whose slots are of their segments.
 use Rattle.std.proofs.Common.{◌≡◌, ℕ, zero, suc, ◌+◌, ◌*◌, ◌<◌, ◌≤◌, Bool, true, false, List, [], ◌∷◌, ◌++◌, map, take, length, Option, Some, None, refl, sym, ap, subst, ◌∙◌, arith}
 use Rattle.std.specs.Prelude.{slice_get, slice_set, option_map, replicate, if◌then◌else◌}
 use Rattle.std.specs.List.{flat_map}
 use Rattle.std.specs.Option.{ForSome}
 use Rattle.std.proofs.lemmas.List.{length-map, map-append, take-append-le, take_all, take_more_set, append-nil as append_none}
 use Rattle.std.proofs.lemmas.Grind.{flat_map-append}
-use Rattle.std.proofs.lemmas.Option.{slice_get-map}
+use Rattle.std.proofs.lemmas.Option.{slice_get-map, same_Some as same_some}
 use Rattle.lc_page.specs.PageVector.{new_entry}
 use Rattle.lc_record.specs.Content.{put}
 use Rattle.lc_record.specs.Marks.{counting}
@@ -16,7 +16,6 @@ use Rattle.lc_token.specs.declared.token.Token.{Token}
 use Rattle.lc_desk.specs.Blank.{AreOfSegments}
 use Rattle.lc_desk.specs.Fresh.{fresh_token}
 use Rattle.lc_desk.specs.Here.{beside, image_at}
-use Rattle.lc_settled.specs.Places.{same_some}
 use Rattle.lc_desk.specs.Seats.{AllRun, AreShort}
 use Rattle.lc_desk.specs.Slots.{AreInPlace, Besides, besides_of}
 use Rattle.lc_desk.specs.declared.here.Here.{Here}

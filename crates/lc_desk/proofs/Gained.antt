@@ -1,14 +1,14 @@
--- What is applied at a node and what waits there changes, and nothing else of the numbers.
+-- Of a desk: what is applied at a node and what waits there changes, and nothing else of the numbers.
 use Rattle.std.proofs.Common.{◌≡◌, ◌≢◌, ℕ, ◌+◌, ◌-◌, List, Some, refl, sym, subst, ◌∙◌, inl, inr, arith}
 use Rattle.std.specs.Prelude.{slice_get, slice_set}
 use Rattle.std.proofs.lemmas.Bool.{cases_eq, eq-eqb, ne_eqb}
 use Rattle.std.proofs.lemmas.List.{length-set}
+use Rattle.std.proofs.lemmas.Option.{same_Some as same_some}
 use Rattle.lc_record.specs.declared.part.Part.{Part}
 use Rattle.lc_token.specs.declared.token.Token.{Token}
 use Rattle.lc_model.specs.Moves.{update_at}
 use Rattle.lc_model.specs.State.{Setting, State}
 use Rattle.lc_settled.specs.Numbers.{Numbers}
-use Rattle.lc_settled.specs.Places.{same_some}
 use Rattle.lc_desk.specs.Places.{get_set_same, get_set_other}
 use Rattle.lc_desk.specs.Slots.{Besides, Awaits, FitsToken, FitsSlot, FitsSlots}
 use Rattle.lc_desk.proofs.Slotted.{slot_kept}

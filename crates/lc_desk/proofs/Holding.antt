@@ -5,6 +5,7 @@ use Rattle.std.specs.List.{list_any}
 use Rattle.std.proofs.lemmas.Bool.{cases_Bool, false_from_ne_true, true_from_ne_false, or_right, or_from}
 use Rattle.std.proofs.lemmas.List.Elements.{All-head, All-tail, All-append, All-map, All-filter}
 use Rattle.std.proofs.lemmas.List.Folds.{list_any_none as any-none}
+use Rattle.std.proofs.lemmas.Option.{same_Some as same_some}
 use Rattle.lc_range.specs.RangeSet.{Has}
 use Rattle.lc_record.specs.Content.{Content, segment_of}
 use Rattle.lc_record.specs.Transaction.{Transaction, all_set, is_member, locks, holds}
@@ -26,7 +27,6 @@ use Rattle.lc_tx.proofs.ReaderLemmas.{one_at}
 use Rattle.lc_tx.proofs.HolderLemmas.{free_reads_not, writer_is_some}
 use Rattle.lc_desk.specs.Here.{the_images}
 use Rattle.lc_desk.specs.Desk.{FitsSeat, FitsDesk, Sits}
-use Rattle.lc_settled.specs.Places.{same_some}
 use Rattle.lc_desk.specs.Seat.{Seat, Free, Open, Reserved, holder_of}
 use Rattle.lc_desk.specs.Seats.{Runs, AllRun}
 use Rattle.lc_desk.specs.declared.here.Here.{Here}

@@ -4,6 +4,7 @@ use Rattle.std.specs.Prelude.{slice_get, slice_set, ◌↔◌, IsSome, is_some, 
 use Rattle.std.specs.Option.{ForSome}
 use Rattle.std.specs.Vec.{with_item}
 use Rattle.std.proofs.lemmas.Bool.{eq-eqb, cases_lt, lt-ltb, le-ltb}
+use Rattle.std.proofs.lemmas.Option.{same_Some as same_some}
 use Rattle.lc_model.specs.Machine.{Row, placed}
 use Rattle.lc_model.specs.History.{reserved}
 use Rattle.lc_model.specs.Refusals.{is_at, leave_refusal}
@@ -27,7 +28,6 @@ use Rattle.lc_desk.specs.Here.{the_images, number_in, number_at, number_of, imag
 use Rattle.lc_desk.specs.Seats.{AllRun}
 use Rattle.lc_desk.specs.Desk.{FitsDesk}
 use Rattle.lc_settled.specs.Numbers.{Numbers}
-use Rattle.lc_settled.specs.Places.{same_some}
 use Rattle.lc_settled.specs.Settled.{is_writing, leave_answer, open_answer}
 use Rattle.lc_desk.specs.Leaves.{with_token, IsAsBefore, Leaves, MayLeave}
 use Rattle.lc_desk.specs.declared.desk.Desk.{Desk}

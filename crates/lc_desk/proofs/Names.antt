@@ -1,7 +1,8 @@
--- Which replies an event may get at all, kind by kind.
+-- Of a desk: which replies an event may get at all, kind by kind.
 use Rattle.std.proofs.Common.{◌≡◌, ℕ, ◌+◌, Bool, true, false, ◌||◌, List, length, Option, None, Some, refl, sym, ap, subst, ◌∙◌, true≢false, inl, inr}
 use Rattle.std.specs.Prelude.{IfErr, IsOk, IsSome, IsTrue, Result, Ok, Err}
 use Rattle.std.proofs.lemmas.Bool.{cases_Bool, cases_lt, or_from}
+use Rattle.std.proofs.lemmas.Option.{same_Some as same_some}
 use Rattle.lc_record.specs.Transaction.{is_member}
 use Rattle.lc_token.specs.Standing.{Standing}
 use Rattle.lc_token.specs.declared.fault.TokenFault.{TokenFault}
@@ -15,7 +16,6 @@ use Rattle.lc_model.specs.Machine.{may_refuse_reserve}
 use Rattle.lc_model.specs.declared.refusal.Refusal.{Refusal}
 use Rattle.lc_model.specs.declared.refusal.Refusal.TheVariants.{Busy, EmptyRange, Held, NoRange, NotHere, NotLocked, OutOfSegment, ReadOnly, SequenceSpent, TooLong, TooManyRanges, Unflushed, Writing as HasWrite}
 use Rattle.lc_desk.specs.MayReply.{is_turn, may_refuse_begin, may_refuse_leave, may_refuse_range, may_refuse_read, may_refuse_write}
-use Rattle.lc_settled.specs.Places.{same_some}
 use Rattle.lc_desk.specs.Refused.{refusal_of}
 use Rattle.lc_desk.specs.TokenRefused.{token_refusal}
 use Rattle.lc_desk.proofs.Left.{LeaveAnswers}

@@ -1,9 +1,10 @@
--- A token that stands at a node, and is known more of: the desk fits as before.
+-- Of a desk: a token that stands at a node, and is known more of: the desk fits as before.
 use Rattle.std.proofs.Common.{◌≡◌, ℕ, zero, suc, ◌-◌, ◌<◌, Option, Some, None, refl, sym, ap, subst, ◌∙◌, inl, inr}
 use Rattle.std.specs.Prelude.{List, length, slice_get, slice_set, IsSome, IsSomeAnd}
 use Rattle.std.specs.Option.{ForSome}
 use Rattle.std.specs.Vec.{with_item}
 use Rattle.std.proofs.lemmas.Bool.{cases_eq}
+use Rattle.std.proofs.lemmas.Option.{same_Some as same_some}
 use Rattle.lc_token.specs.Standing.{Standing}
 use Rattle.lc_token.specs.Token.{IsWritten}
 use Rattle.lc_token.specs.declared.token.Token.{Token}
@@ -16,7 +17,6 @@ use Rattle.lc_tx.proofs.BesideLemmas.{runs_beside}
 use Rattle.lc_desk.specs.Here.{the_images, number_in, number_at, image_at}
 use Rattle.lc_desk.specs.Leaves.{HasToken}
 use Rattle.lc_desk.specs.Places.{get_set_other, get_set_same}
-use Rattle.lc_settled.specs.Places.{same_some}
 use Rattle.lc_desk.specs.Seat.{Seat}
 use Rattle.lc_desk.specs.Seats.{Runs, AllRun}
 use Rattle.lc_desk.specs.Drafts.{NotesWritten}

@@ -3,7 +3,7 @@ use Rattle.std.proofs.Common.{◌≡◌, ◌≢◌, ℕ, zero, suc, ◌+◌, ◌
 use Rattle.std.specs.Prelude.{slice_get, slice_index_or, slice_set, Result, Ok, Err}
 use Rattle.std.proofs.lemmas.Bool.{cases_eq}
 use Rattle.std.proofs.lemmas.List.{length-set}
-use Rattle.std.proofs.lemmas.Option.{get_or_from_slice_get, slice_get_within}
+use Rattle.std.proofs.lemmas.Option.{get_or_from_slice_get, slice_get_within, same_Some as same_some}
 use Rattle.lc_disk.specs.declared.area.Area.{Ghosts}
 use Rattle.lc_record.specs.declared.geometry.Geometry.{Geometry}
 use Rattle.lc_page.specs.Page.{Page, page_in}
@@ -22,7 +22,6 @@ use Rattle.lc_settled.specs.Numbers.{Numbers}
 use Rattle.lc_desk.specs.PageState.{AreNamed}
 use Rattle.lc_desk.specs.Pages.{FitsArea, FollowsBegin, FollowsNext, HasBegun, IsAtRest, IsBetween, IsPageAt, StepsIn, TellsNumbers}
 use Rattle.lc_rest.specs.Pages.{as_read}
-use Rattle.lc_settled.specs.Places.{same_some}
 use Rattle.lc_desk.specs.Places.{get_set_same, get_set_other}
 use Rattle.lc_settled.specs.Settled.{begun_number}
 use Rattle.lc_settled.specs.Turns.{called, page_settled}

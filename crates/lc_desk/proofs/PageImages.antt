@@ -4,6 +4,7 @@ use Rattle.std.specs.Prelude.{slice_get, slice_set}
 use Rattle.std.specs.List.{list_any}
 use Rattle.std.proofs.lemmas.Bool.{cases_eq, cases_lt, lt-ltb}
 use Rattle.std.proofs.lemmas.List.{length-set}
+use Rattle.std.proofs.lemmas.Option.{same_Some as same_some}
 use Rattle.lc_disk.specs.Area.{IsImage}
 use Rattle.lc_disk.specs.declared.area.Area.{Ghosts}
 use Rattle.lc_record.specs.Marks.{counting}
@@ -19,7 +20,6 @@ use Rattle.lc_settled.specs.Numbers.{Numbers}
 use Rattle.lc_desk.specs.PageState.{is_begun}
 use Rattle.lc_desk.specs.Pages.{FitsArea, FitsPages, HasBegun, IsPageAt, IsStored}
 use Rattle.lc_rest.specs.Pages.{as_read}
-use Rattle.lc_settled.specs.Places.{same_some}
 use Rattle.lc_desk.specs.Places.{get_set_same, get_set_other}
 use Rattle.lc_settled.specs.Settled.{is_writing}
 use Rattle.lc_settled.specs.Turns.{called, page_settled}

@@ -1,4 +1,4 @@
--- How the pages of the areas stand, where nothing changes them, and what is done beside them.
+-- Of a desk: how the pages of the areas stand, where nothing changes them, and what is done beside them.
 use Rattle.std.proofs.Common.{◌≡◌, ℕ, sym, ap, subst, ◌∙◌}
 use Rattle.lc_disk.specs.declared.area.Area.{Ghosts}
 use Rattle.lc_record.specs.declared.geometry.Geometry.{Geometry}

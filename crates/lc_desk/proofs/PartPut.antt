@@ -25,9 +25,9 @@ use Rattle.lc_model.specs.Stored.{Disks, base}
 use Rattle.lc_model.proofs.Keeps.{history-well}
 use Rattle.lc_model.proofs.Law.{effects-append}
 use Rattle.std.proofs.lemmas.List.Elements.{All-head}
+use Rattle.std.proofs.lemmas.Option.{same_Some as same_some}
 use Rattle.lc_model.proofs.Merging.{counted-length, of_a_segment}
 use Rattle.lc_model.proofs.RecordBytes.{record-laid, record-number}
-use Rattle.lc_settled.specs.Places.{same_some}
 use Rattle.lc_desk.specs.Slots.{segment_to}
 
 -- The ranges of one segment

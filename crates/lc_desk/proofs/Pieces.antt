@@ -1,4 +1,4 @@
--- What stands in a store that is made of pieces.
+-- Of a desk: what stands in a store that is made of pieces.
 use Rattle.std.proofs.Common.{◌≡◌, ℕ, true, false, List, [], ◌∷◌, length, Option, Some, None, refl, ap, arith}
 use Rattle.std.specs.Option.{ForSome}
 use Rattle.std.specs.Prelude.{if◌then◌else◌}

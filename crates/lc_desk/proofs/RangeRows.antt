@@ -2,6 +2,7 @@
 use Rattle.std.proofs.Common.{◌≡◌, ◌≢◌, ℕ, ◌+◌, ◌-◌, ◌^◌, ◌<◌, ◌≤◌, min, true, false, ◌==◌, ◌||◌, nat_le, List, length, Some, None, refl, sym, ap, subst, ◌∙◌, arith, le-leb, ne_eqb, eq-eqb, true≢false, inl, inr}
 use Rattle.std.specs.Prelude.{Result, Ok, Err, OnOk, OnErr}
 use Rattle.std.proofs.lemmas.Bool.{cases_lt, cases_Bool, false_from_ne_true, or_from, lt-leb as le-false}
+use Rattle.std.proofs.lemmas.Option.{same_Some as same_some}
 use Rattle.lc_record.specs.Transaction.{is_member, locks, holds}
 use Rattle.lc_record.specs.Geometry.{segment_len}
 use Rattle.lc_record.specs.Marks.{marked, ranges}
@@ -21,7 +22,6 @@ use Rattle.lc_tx.specs.declared.tx_fault.TxFault.{TxFault}
 use Rattle.lc_tx.specs.declared.tx_fault.TxFault.TheVariants.{Busy as IsBusy, NotHere as IsNotHere, NoRange as HasNoRange, OutOfSegment as IsOutside, NotLocked as IsNotLocked, NoMemory, TooLong as IsTooLong, SequenceSpent as IsSpent, EmptyRange as IsEmpty, TooManyRanges as AreTooMany, ReadOnly as IsReadOnly}
 use Rattle.lc_tx.proofs.HoldsLemmas.{read_apart}
 use Rattle.lc_tx.proofs.StandsLemmas.{more_runs}
-use Rattle.lc_settled.specs.Places.{same_some}
 use Rattle.lc_desk.specs.Refused.{refusal_of}
 use Rattle.lc_desk.specs.Here.{the_images}
 use Rattle.lc_desk.specs.declared.here.Here.{Here}

@@ -1,4 +1,4 @@
--- The reply to what a transaction refused.
+-- Of a desk: the reply to what a transaction refused.
 use Rattle.std.proofs.Common.{◌≡◌, Option, Some, None, refl, sym, subst, true≢false}
 use Rattle.std.specs.Prelude.{Result, Ok, Err, IfOk, OnErr, IsErr, MatchOption}
 use Rattle.std.specs.declared.alloc.AllocError.{AllocError}

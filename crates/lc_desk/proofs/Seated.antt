@@ -1,9 +1,9 @@
 -- How a seat keeps its transaction.
 use Rattle.std.proofs.Common.{◌≡◌, Some, refl, sym}
+use Rattle.std.proofs.lemmas.Option.{same_Some as same_some}
 use Rattle.lc_tx.specs.Tx.{IsIdle}
 use Rattle.lc_tx.specs.declared.tx.Tx.{Tx}
 use Rattle.lc_desk.specs.Doing.{seat_of, Rests}
-use Rattle.lc_settled.specs.Places.{same_some}
 use Rattle.lc_desk.specs.Seat.{Free, Open, holder_of, set_of}
 use Rattle.lc_desk.specs.declared.doing.Doing.{Doing}
 use Rattle.lc_desk.specs.declared.doing.Doing.TheVariants.{Nothing, Open as IsOpen, Reserved as IsReserved}

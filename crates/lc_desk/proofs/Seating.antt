@@ -2,9 +2,9 @@
 use Rattle.std.proofs.Common.{◌≡◌, ◌≢◌, ℕ, zero, suc, true, false, List, [], ◌∷◌, Option, Some, None, is_some, refl, sym, ap, ◌∙◌, inl, inr}
 use Rattle.std.specs.Prelude.{slice_get, slice_set, replicate, ◌⊎◌}
 use Rattle.std.proofs.lemmas.Bool.{cases_eq}
+use Rattle.std.proofs.lemmas.Option.{same_Some as same_some}
 use Rattle.lc_tx.specs.declared.tx.Tx.{Tx}
 use Rattle.lc_desk.specs.Places.{get_set_same, get_set_other}
-use Rattle.lc_settled.specs.Places.{same_some}
 use Rattle.lc_desk.specs.Desk.{Sits}
 use Rattle.lc_desk.specs.Seats.{AllRun}
 use Rattle.lc_desk.specs.declared.here.Here.{Here}

@@ -1,9 +1,10 @@
--- The slots of a node stay as many, and their images as long.
+-- Of a desk: the slots of a node stay as many, and their images as long.
 use Rattle.std.proofs.Common.{◌≡◌, ℕ, zero, suc, ◌≤◌, true, false, List, [], ◌∷◌, ◌++◌, map, length, Option, Some, None, refl, sym, ap, subst, ◌∙◌, inl, inr, arith, eqb, eqb-true, true≢false}
 use Rattle.std.specs.Prelude.{◌⊎◌, slice_get, slice_set, IsSome, Result, Ok, Err, OnOk, OnErr, vec_len}
 use Rattle.std.specs.Vec.{with_item}
 use Rattle.std.proofs.lemmas.Bool.{cases_Bool, cases_eq, or_cases}
 use Rattle.std.proofs.lemmas.List.{length-map}
+use Rattle.std.proofs.lemmas.Option.{same_Some as same_some}
 use Rattle.lc_record.specs.Transaction.{is_member}
 use Rattle.lc_record.proofs.SegmentLemmas.{length-put}
 use Rattle.lc_token.specs.Backlog.{Backlog}
@@ -13,7 +14,6 @@ use Rattle.lc_tx.specs.declared.image.Image.{Image as Picture}
 use Rattle.lc_tx.proofs.MemberLemmas.{member_both}
 use Rattle.lc_desk.specs.Here.{the_images, number_in, number_at, image_at, beside, hidden}
 use Rattle.lc_desk.specs.Places.{get_set_same, get_set_other}
-use Rattle.lc_settled.specs.Places.{same_some}
 use Rattle.lc_desk.specs.Seats.{AreShort}
 use Rattle.lc_desk.specs.Slots.{AreInPlace, Besides, besides_of}
 use Rattle.lc_desk.specs.declared.here.Here.{Here}

@@ -1,4 +1,4 @@
--- What stands in a node's slots, where the machine goes on and tokens leave and come.
+-- Of a desk: what stands in a node's slots, where the machine goes on and tokens leave and come.
 use Rattle.std.proofs.Common.{◌≡◌, ℕ, ◌≤◌, get_or, Some, sym, ap, ◌∙◌, arith}
 use Rattle.lc_record.specs.declared.part.Part.{Part}
 use Rattle.lc_token.specs.declared.token.Token.{Token}

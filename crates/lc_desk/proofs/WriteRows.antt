@@ -2,6 +2,7 @@
 use Rattle.std.proofs.Common.{◌≡◌, ◌≢◌, ℕ, ◌+◌, ◌<◌, ◌≤◌, true, nat_le, List, length, Some, None, refl, sym, ap, subst, ◌∙◌, arith, le-leb, true≢false, inl, inr}
 use Rattle.std.specs.Prelude.{◌↔◌, Result, Ok, Err, IsOk, OnOk, OnErr}
 use Rattle.std.proofs.lemmas.Bool.{cases_lt, cases_Bool, false_from_ne_true, or_from, lt-leb as le-false}
+use Rattle.std.proofs.lemmas.Option.{same_Some as same_some}
 use Rattle.lc_record.specs.Content.{segment_of}
 use Rattle.lc_record.specs.Transaction.{is_member, all_set}
 use Rattle.lc_record.specs.Geometry.{segment_len}
@@ -26,7 +27,6 @@ use Rattle.lc_desk.specs.Here.{the_images}
 use Rattle.lc_desk.specs.declared.here.Here.{Here}
 use Rattle.lc_desk.specs.Seat.{Seat}
 use Rattle.lc_desk.specs.Desk.{IsOpen, FitsDesk}
-use Rattle.lc_settled.specs.Places.{same_some}
 use Rattle.lc_desk.specs.Seats.{Runs}
 use Rattle.lc_desk.proofs.Changing.{seen_keeps}
 use Rattle.lc_desk.proofs.RangeRows.{lock_is, read_holds, none_holds, size_is}

@@ -1,4 +1,4 @@
--- What the other nodes need to know of a step of one node.
+-- Of a desk: what the other nodes need to know of a step of one node.
 use Rattle.std.specs.Prelude.{◌≡◌, ℕ, false, map, length, find, Some, slice_get}
 use Rattle.lc_record.specs.Content.{Content, segment_of}
 use Rattle.lc_record.specs.Transaction.{Transaction}

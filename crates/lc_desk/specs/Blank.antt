@@ -1,4 +1,4 @@
--- What stands ready before the pages of a store are known, and how its nodes are filled with them.
+-- Of a desk: what stands ready before the pages of a store are known, and how its nodes are filled with them.
 use Rattle.std.specs.Prelude.{◌≡◌, ℕ, ◌+◌, ◌%◌, ◌==◌, List, [], length, replicate, is_some, Some, slice_get}
 use Rattle.std.specs.Option.{ForSome}
 use Rattle.lc_record.specs.Geometry.{segment_len}

@@ -1,4 +1,4 @@
--- What it is that a node's transactions follow the machine.
+-- Of a desk: what it is that a node's transactions follow the machine.
 use Rattle.std.specs.Prelude.{◌≡◌, ℕ, true}
 use Rattle.lc_model.specs.Sound.{Sound}
 use Rattle.lc_model.specs.State.{Setting, State}

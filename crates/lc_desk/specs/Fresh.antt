@@ -1,4 +1,4 @@
--- What comes up after a recovery.
+-- Of a desk: what comes up after a recovery.
 use Rattle.std.specs.Prelude.{◌≡◌, ℕ, ◌%◌, ◌==◌, List, map, Some, None, if◌then◌else◌}
 use Rattle.std.specs.List.{flat_map}
 use Rattle.lc_record.specs.Marks.{counting}

@@ -2,7 +2,7 @@
 use Rattle.std.specs.Prelude.{◌≡◌, ◌≢◌, ℕ, zero, suc, ◌-◌, List, [], ◌∷◌, map, slice_set, slice_index_or, slice_get, Option, Some, None, IsSome}
 use Rattle.std.specs.Vec.{with_item}
 use Rattle.std.proofs.Common.{refl, sym, ap, subst, ◌∙◌, arith}
-use Rattle.std.proofs.lemmas.Option.{get_or_from_slice_get}
+use Rattle.std.proofs.lemmas.Option.{get_or_from_slice_get, same_Some as same_some}
 use Rattle.lc_token.specs.declared.token.Token.{Token}
 use Rattle.lc_token.specs.Backlog.{Backlog}
 use Rattle.lc_token.specs.Standing.{Standing}
@@ -10,7 +10,6 @@ use Rattle.lc_tx.specs.declared.image.Image.{Image as Picture}
 use Rattle.lc_tx.specs.declared.images.Images.{Ghosts}
 use Rattle.lc_desk.specs.declared.segment_copy.SegmentCopy.{SegmentCopy}
 use Rattle.lc_desk.specs.declared.here.Here.{Here}
-use Rattle.lc_settled.specs.Places.{same_some}
 use Rattle.lc_desk.specs.Places.{get_set_other, get_set_same, same_map_set}
 
 abbrev pub number_in : Option Token → Option ℕ

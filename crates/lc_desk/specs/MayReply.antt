@@ -1,4 +1,4 @@
--- Which replies an event may get at all, whatever the store holds and whatever its areas are.
+-- Of a desk: which replies an event may get at all, whatever the store holds and whatever its areas are.
 use Rattle.std.specs.Prelude.{Bool, true, false, ◌||◌, None}
 use Rattle.lc_model.specs.Machine.{may_refuse_reserve}
 use Rattle.lc_model.specs.declared.refusal.Refusal.{Refusal}

@@ -1,4 +1,4 @@
--- Which transaction a thread has open, and how many threads there are.
+-- Of a desk: which transaction a thread has open, and how many threads there are.
 use Rattle.std.specs.Prelude.{Option, None, Some}
 use Rattle.lc_tx.specs.declared.tx.Tx.{Tx}
 use Rattle.lc_desk.specs.Seat.{Seat, open_of}

@@ -1,4 +1,4 @@
--- How the writes of the pages of a segment stand.
+-- Of a desk: how the writes of the pages of a segment stand.
 use Rattle.std.specs.Prelude.{◌≡◌, ℕ, Bool, true, false, List, Some, slice_get}
 use Rattle.lc_page.specs.Writing.{draft_of}
 use Rattle.lc_page.specs.declared.writing.Writing.{Writing}

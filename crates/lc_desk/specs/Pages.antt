@@ -1,4 +1,4 @@
--- The areas of the segments and the writes of their pages, against the numbers.
+-- Of a desk: the areas of the segments and the writes of their pages, against the numbers.
 use Rattle.std.specs.Prelude.{◌≡◌, ℕ, ◌+◌, ◌<◌, ◌≤◌, Bool, true, false, List, length, Some, Result, Ok, Err, IfOk, slice_get, slice_index_or, slice_set}
 use Rattle.lc_disk.specs.declared.area.Area.{Ghosts}
 use Rattle.lc_record.specs.declared.geometry.Geometry.{Geometry}

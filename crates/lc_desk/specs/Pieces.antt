@@ -1,4 +1,4 @@
--- The pieces that a store is made of, and how they stand in it.
+-- Of a desk: the pieces that a store is made of, and how they stand in it.
 use Rattle.std.specs.Prelude.{◌≡◌, ℕ, ◌+◌, ◌==◌, Bool, false, List, length, Option, Some, None, slice_get, if◌then◌else◌}
 use Rattle.std.specs.Option.{ForSome}
 use Rattle.lc_record.specs.Geometry.{segment_len}

@@ -1,7 +1,7 @@
 -- An element of a list, after a write to one.
 use Rattle.std.specs.Prelude.{◌≡◌, ℕ, zero, suc, List, [], ◌∷◌, map, Some, slice_get, slice_set}
 use Rattle.std.proofs.Common.{refl, sym, ap, ◌∙◌}
-use Rattle.lc_settled.specs.Places.{same_some}
+use Rattle.std.proofs.lemmas.Option.{same_Some as same_some}
 
 pub get_set_same : {A : Type 0} (xs : List A) (k : ℕ) (x y : A) → slice_get xs k ≡ Some x → slice_get (slice_set xs k y) k ≡ Some y
 get_set_same [] k x y is = absurd cc

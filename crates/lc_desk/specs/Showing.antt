@@ -1,4 +1,4 @@
--- What a node's image of a segment shows.
+-- Of a desk: what a node's image of a segment shows.
 use Rattle.std.specs.Prelude.{ℕ, ◌*◌, List, take, drop}
 
 -- 256 bytes

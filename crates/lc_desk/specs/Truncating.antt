@@ -1,5 +1,5 @@
--- What a truncation of a node's log is: its flush, the writes of the pages that are due, none of which begins where one is blocked,
--- and its reset, up to the first refusal.
+-- Of a desk: what a truncation of a node's log is: its flush, the writes of the pages that are due, none of which
+-- begins where one is blocked, and its reset, up to the first refusal.
 use Rattle.std.specs.Prelude.{ℕ, ◌||◌, Bool, false, nat_lt, Option, Some, None}
 use Rattle.std.specs.Option.{unwrap_or}
 use Rattle.lc_page.specs.PageVector.{entry_at, is_dirty}

@@ -1,4 +1,4 @@
--- What a stop of a store would lose.
+-- Of a desk: what a stop of a store would lose.
 use Rattle.std.specs.Prelude.{ℕ, not, List}
 use Rattle.std.specs.List.{count_by}
 use Rattle.lc_desk.specs.Seat.{Seat, is_free}

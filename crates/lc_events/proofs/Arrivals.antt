@@ -2,7 +2,7 @@
 use Rattle.std.proofs.Common.{◌≡◌, ℕ, zero, suc, ◌+◌, ◌-◌, ◌<◌, ◌≤◌, Bool, true, false, ◌||◌, ◌&&◌, ◌==◌, nat_le, List, [], ◌∷◌, drop, Option, Some, None, is_some, ltb-true, refl, sym, ap, subst, ◌∙◌, arith}
 use Rattle.std.specs.Prelude.{slice_get, slice_index_or, vec_len, IsSome, if◌then◌else◌}
 use Rattle.std.specs.List.{list_all}
-use Rattle.std.proofs.lemmas.Option.{slice_get_read}
+use Rattle.std.proofs.lemmas.Option.{slice_get_read, same_Some as same_some}
 use Rattle.std.proofs.lemmas.Bool.{le-leb, leb-true, and_parts as and-both}
 use Rattle.lc_disk.specs.declared.area.Area.{Ghosts}
 use Rattle.lc_record.specs.Part.{number_in, part_of}
@@ -28,7 +28,6 @@ use Rattle.lc_events.specs.Delivers.{Brings, CopiesPart, HasNewPart}
 use Rattle.lc_desk.specs.Here.{beside}
 use Rattle.lc_events.specs.NodeState.{FitsNode, GoesOn}
 use Rattle.lc_settled.specs.Numbers.{Numbers, token_number}
-use Rattle.lc_settled.specs.Places.{same_some}
 use Rattle.lc_journal.specs.Published.{Finds, IsFound}
 use Rattle.lc_desk.specs.Receives.{FollowsReceive, received_numbers, reply_of}
 use Rattle.lc_events.specs.Running.{FitsRunning}

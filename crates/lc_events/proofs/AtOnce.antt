@@ -1,23 +1,28 @@
 -- What a store that is up refuses at once.
-use Rattle.std.proofs.Common.{◌≡◌, ℕ, ◌<◌, Bool, true, false, ◌&&◌, List, Option, Some, None, get_or, sym, ap, ◌∙◌, arith}
+use Rattle.std.proofs.Common.{◌≡◌, ℕ, ◌<◌, nat_lt, Bool, true, false, ◌&&◌, List, Option, Some, None, get_or, refl, sym, ap, subst, ◌∙◌, arith, length, ltb-false}
 use Rattle.std.proofs.lemmas.Bool.{ltb-true, and_parts as and-both}
-use Rattle.std.proofs.lemmas.Option.{slice_get_read}
+use Rattle.std.proofs.lemmas.Option.{slice_get_read, same_Some as same_some}
 use Rattle.std.specs.Prelude.{option_map, slice_get}
+use Rattle.std.specs.Bool.{then_some}
 use Rattle.std.specs.List.{list_all}
 use Rattle.lc_disk.specs.declared.area.Area.{Ghosts}
 use Rattle.lc_record.specs.declared.geometry.Geometry.{Geometry}
-use Rattle.lc_model.specs.Refusals.{Named, named, are_known, acts_halted, is_known, is_halted, is_up, is_node, is_thread, is_segment, is_page}
+use Rattle.lc_model.specs.Refusals.{Named, named, are_known, acts_halted, common_refusal, is_known, is_halted, is_up, is_node, is_thread, is_segment, is_page}
 use Rattle.lc_model.specs.State.{Setting, State}
 use Rattle.lc_model.specs.declared.event.Event.{Event}
-use Rattle.lc_model.specs.declared.refusal.Refusal.TheVariants.{Halted}
+use Rattle.lc_model.specs.declared.refusal.Refusal.{Refusal}
+use Rattle.lc_model.specs.declared.refusal.Refusal.TheVariants.{Halted, Unknown}
+use Rattle.lc_model.specs.declared.reply.Reply.TheVariants.{Refused}
 use Rattle.lc_model.proofs.Rows.{common-halted, common-none}
 use Rattle.lc_journal.specs.Log.{is_failed}
 use Rattle.lc_settled.specs.Numbers.{Numbers}
-use Rattle.lc_settled.specs.Places.{same_some}
-use Rattle.lc_events.specs.Refuses.{Refuses, ActsRunning}
+use Rattle.lc_events.specs.Geometries.{RefusesUnknown}
+use Rattle.lc_events.specs.MayReply.{is_common}
+use Rattle.lc_events.specs.Refuses.{Refuses, RefusesFirst, ActsRunning}
 use Rattle.lc_events.specs.Running.{FitsRunning}
 use Rattle.lc_events.specs.declared.node_state.NodeState.{NodeState}
 use Rattle.lc_events.specs.declared.running.Running.{Running}
+use Rattle.lc_events.proofs.Geometries.{refuses_known, refuses_outside}
 
 -- the node that acts is one of the geometry
 acts_within : (g : Geometry) (o : Option Named) (n : ℕ) → Some n ≡ option_map (λ its. its.node) o → are_known g o ≡ true → n < g.nodes
@@ -37,6 +42,10 @@ acts_within g (Some its) n acts known =
 acts_at : (halted : ℕ → Bool) (o : Option Named) (n : ℕ) → Some n ≡ option_map (λ its. its.node) o → acts_halted halted o ≡ halted n
 acts_at halted None n acts = absurd cc
 acts_at halted (Some its) n acts = ap halted (sym (same_some n its.node acts))
+
+-- what names something unknown
+common-unknown : (g : Geometry) (s : State) (event : Event) → is_up s.phase ≡ true → is_known g event ≡ false → common_refusal g s event ≡ Some Unknown
+common-unknown g s event up known = rw (up, known) refl
 
 module _ {D : Type 0} (a : Ghosts D) where
   running_at : (nodes : List (NodeState D a)) (o : Option Named) (n : ℕ) (node : NodeState D a) → Some n ≡ option_map (λ its. its.node) o → slice_get nodes n ≡ Some node
@@ -68,3 +77,48 @@ module _ {D : Type 0} (a : Ghosts D) where
 
     pub acts_running : is_failed a node.journal.log ≡ false → ActsRunning a (named event) w.nodes.items
     acts_running goes = running_at w.nodes.items (named event) n node acts stands goes
+
+    -- and all of it: the node serves, or is halted
+    pub first_serves : is_failed a node.journal.log ≡ false → RefusesFirst a w event None
+    first_serves goes = record {
+      refused = none_at_once goes;
+      names = λ refusal is. absurd cc;
+      unknown = λ refusal is. absurd cc;
+      known = λ none. known;
+      running = λ none. acts_running goes;
+    }
+
+    pub first_halted : is_failed a node.journal.log ≡ true → RefusesFirst a w event (Some Halted)
+    first_halted fails = record {
+      refused = halted_at_once fails;
+      names = λ refusal is. subst (λ (r : Refusal). is_common r ≡ true) (same_some Halted refusal is) refl;
+      unknown = λ refusal is. subst (λ (r : Refusal). RefusesUnknown w.geometry event (Refused r)) (same_some Halted refusal is) (refuses_known w.geometry event (Refused Halted) known refl);
+      known = λ none. absurd cc;
+      running = λ none. absurd cc;
+    }
+
+    pub first_by : (fails : Bool) → is_failed a node.journal.log ≡ fails → RefusesFirst a w event (then_some fails Halted)
+    first_by true fails = first_halted fails
+    first_by false goes = first_serves goes
+
+  -- what it names is unknown
+  pub first_unknown : (w : Running D a) (event : Event) → is_known w.geometry event ≡ false → RefusesFirst a w event (Some Unknown)
+  first_unknown w event outside = record {
+    refused = λ m s x h. sym (common-unknown m.geometry s event (ap is_up h.up) (ap (λ (g : Geometry). is_known g event) h.geometry_is ∙ outside));
+    names = λ refusal is. subst (λ (r : Refusal). is_common r ≡ true) (same_some Unknown refusal is) refl;
+    unknown = λ refusal is. subst (λ (r : Refusal). RefusesUnknown w.geometry event (Refused r)) (same_some Unknown refusal is) (refuses_outside w.geometry event outside);
+    known = λ none. absurd cc;
+    running = λ none. absurd cc;
+  }
+
+  -- so is what is of a node behind the last
+  pub outside_last : (w : Running D a) (event : Event) (n : ℕ) → Some n ≡ option_map (λ its. its.node) (named event) → nat_lt n (length w.nodes.items) ≡ false → is_known w.geometry event ≡ false
+  outside_last w event n acts outside = go (is_known w.geometry event) refl
+    where
+      go : (b : Bool) → is_known w.geometry event ≡ b → b ≡ false
+      go false is = refl
+      go true is = absurd (omega (arith, acts_within w.geometry (named event) n acts is, w.all_nodes, w.nodes.ok.0, ltb-false n (length w.nodes.items) outside))
+
+  -- the node of what is not refused is one of the store's
+  pub node_within : (w : Running D a) (event : Event) (o : Option Refusal) → RefusesFirst a w event o → o ≡ None → (n : ℕ) → Some n ≡ option_map (λ its. its.node) (named event) → n < w.geometry.nodes
+  node_within w event o first none n acts = acts_within w.geometry (named event) n acts (first.known none)

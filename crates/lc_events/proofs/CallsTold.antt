@@ -1,4 +1,4 @@
--- Which replies tell of a call, event by event.
+-- Of nodes that run: which replies tell of a call, event by event.
 use Rattle.std.proofs.Common.{◌≡◌, ℕ, true, false, refl, sym, true≢false}
 use Rattle.lc_model.specs.declared.event.Event.{Event}
 use Rattle.lc_model.specs.declared.event.Event.TheVariants.{FlushStep, ResetStep}

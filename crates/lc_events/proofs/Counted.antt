@@ -1,11 +1,12 @@
--- A record that is closed: what it makes of the tokens' numbers, of the node's slots, and of those of the others.
+-- Of nodes that run: a record that is closed: what it makes of the tokens' numbers, of the node's slots, and of those
+-- of the others.
 use Rattle.std.proofs.Common.{◌≡◌, ℕ, zero, suc, ◌+◌, ◌-◌, ◌*◌, ◌<◌, ◌≤◌, Bool, true, false, not, List, [], ◌∷◌, map, take, length, filter, find, Option, Some, None, All, AllPairs, IsTrue, refl, sym, ap, subst, ◌∙◌, inl, inr, arith, add-one, true≢false}
 use Rattle.std.specs.Prelude.{◌^◌, ◌&&◌, ◌↔◌, ◌==◌, nat_lt, max, slice_get, option_map, IsSome, MatchBool, MatchOption, if◌then◌else◌}
 use Rattle.std.specs.List.{AllByRecursion}
 use Rattle.std.specs.Option.{unwrap_or}
 use Rattle.std.proofs.lemmas.Bool.{and_from, eq-eqb, eqb-true, false_from_ne_true, lt-ltb, ne_eqb, or_cases, or_left, or_right}
 use Rattle.std.proofs.lemmas.List.{length-map}
-use Rattle.std.proofs.lemmas.Option.{slice_get-map, slice_get_within}
+use Rattle.std.proofs.lemmas.Option.{slice_get-map, slice_get_within, same_Some as same_some}
 use Rattle.std.proofs.lemmas.List.Elements.{All-nil, All-head, All-tail, All-map, All-filter, All-from_recursion, All-weaker}
 use Rattle.lc_log.specs.LogText.{IsWhole}
 use Rattle.lc_page.specs.PageVector.{entry_at, entry_text, touched_at}
@@ -44,7 +45,6 @@ use Rattle.lc_desk.specs.Counts.{Counts, CountsAll, CountsSlot, CountsToken, cou
 use Rattle.lc_desk.specs.Desk.{FitsDesk}
 use Rattle.lc_desk.specs.Here.{beside, hidden, number_at, number_in, number_of, the_images}
 use Rattle.lc_settled.specs.Numbers.{Numbers, sets_on, stable, token_number}
-use Rattle.lc_settled.specs.Places.{same_some}
 use Rattle.lc_desk.specs.Slots.{Awaits, Besides, FitsSlot, FitsSlots, FitsToken, besides_of, segment_to}
 use Rattle.lc_settled.specs.Turns.{with_record}
 use Rattle.lc_desk.specs.declared.here.Here.{Here}

@@ -1,4 +1,4 @@
--- A desk whose slots have counted a record stands as before for its transactions.
+-- Of nodes that run: a desk whose slots have counted a record stands as before for its transactions.
 use Rattle.std.proofs.Common.{◌≡◌, ℕ, false, List, length, Option, Some, None, refl, sym, ap, ◌∙◌, arith}
 use Rattle.std.specs.Prelude.{is_some, vec_len}
 use Rattle.lc_range.specs.declared.range.Range.{Range}

@@ -4,6 +4,7 @@ use Rattle.std.specs.Prelude.{slice_get, if◌then◌else◌}
 use Rattle.std.proofs.lemmas.Bool.{false_from_ne_true}
 use Rattle.std.proofs.lemmas.List.{map-append}
 use Rattle.std.proofs.lemmas.List.Elements.{All-head, All-map, filter-append}
+use Rattle.std.proofs.lemmas.Option.{same_Some as same_some}
 use Rattle.lc_record.specs.Content.{Content}
 use Rattle.lc_record.specs.Part.{number_in}
 use Rattle.lc_record.specs.Recorded.{counted, record_of, records_from}
@@ -22,7 +23,6 @@ use Rattle.lc_model.proofs.Lists.{All-filter_if, All-from_map, split}
 use Rattle.lc_model.proofs.Merging.{counted-length}
 use Rattle.lc_model.proofs.RecordBytes.{sets-locks}
 use Rattle.lc_settled.specs.Numbers.{Numbers, token_number}
-use Rattle.lc_settled.specs.Places.{same_some}
 use Rattle.lc_desk.proofs.PartPut.{own_number}
 use Rattle.lc_events.proofs.Slotted.{all_closed}
 

@@ -1,12 +1,13 @@
--- A transaction gets its place, and its record is closed there, from the nodes up to the store.
-use Rattle.std.proofs.Common.{◌≡◌, ℕ, false, true, None, Some, get_or, refl, sym, ap, subst, ◌∙◌, inl, inr}
+-- Of nodes that run: a transaction gets its place, and its record is closed there, from the nodes up to the store.
+use Rattle.std.proofs.Common.{◌≡◌, ℕ, false, true, Option, None, Some, get_or, refl, sym, ap, subst, ◌∙◌, inl, inr}
 use Rattle.std.proofs.lemmas.List.{get_or-set_same, length-set, set-set}
-use Rattle.std.proofs.lemmas.Option.{slice_get_within}
+use Rattle.std.proofs.lemmas.Option.{slice_get_within, same_Some as same_some}
 use Rattle.std.specs.Prelude.{Result, Ok, Err, slice_get, slice_set}
 use Rattle.std.specs.declared.alloc.AllocError.{AllocError}
 use Rattle.lc_disk.specs.declared.area.Area.{Ghosts}
-use Rattle.lc_model.specs.Refusals.{is_known, named}
+use Rattle.lc_model.specs.Refusals.{is_known}
 use Rattle.lc_model.specs.declared.event.Event.TheVariants.{Close, Reserve}
+use Rattle.lc_model.specs.declared.refusal.Refusal.{Refusal}
 use Rattle.lc_model.specs.declared.reply.Reply.{Reply}
 use Rattle.lc_model.specs.declared.reply.Reply.TheVariants.{Reserved as HasPlace}
 use Rattle.lc_events.specs.Answered.{StandsFor, done, place_taken}
@@ -16,15 +17,14 @@ use Rattle.lc_journal.specs.Log.{is_failed, is_sealed}
 use Rattle.lc_events.specs.MayReply.{may_reserve}
 use Rattle.lc_events.specs.NodeState.{FollowsReserve, HasSameRoom}
 use Rattle.lc_events.specs.NodeSteps.{StepsNode}
-use Rattle.lc_settled.specs.Places.{same_some}
-use Rattle.lc_events.specs.Refuses.{ActsRunning, Refuses}
+use Rattle.lc_events.specs.Refuses.{RefusesFirst}
 use Rattle.lc_events.specs.declared.call_fault.CallFault.{CallFault}
 use Rattle.lc_events.specs.declared.call_fault.CallFault.TheVariants.{NoMemory, Refused as IsRefused}
 use Rattle.lc_events.specs.declared.node_state.NodeState.{NodeState}
 use Rattle.lc_events.specs.declared.placement.Placement.{Placement}
 use Rattle.lc_events.specs.declared.placement.Placement.TheVariants.{Empty as IsEmpty, Record as HasRecord}
 use Rattle.lc_events.specs.declared.running.Running.{Running}
-use Rattle.lc_events.proofs.AtOnce.{acts_running, none_at_once, stands}
+use Rattle.lc_events.proofs.AtOnce.{first_serves, stands}
 use Rattle.lc_events.proofs.Layering.{node_tries}
 use Rattle.lc_events.proofs.Names.{answers_may}
 use Rattle.lc_events.proofs.NodeSteps.{placed_steps, up_there}
@@ -56,8 +56,10 @@ module _ {D : Type 0} (a : Ghosts D) where
   }
 
   -- the node that acts, where nothing is refused at once
-  module _ (w : Running D a) (n thread : ℕ) (refuses : Refuses a w (Close n thread) None) (known : is_known w.geometry (Close n thread) ≡ true)
-      (runs : ActsRunning a (named (Close n thread)) w.nodes.items) (node : NodeState D a) (read : node ≡ get_or w.nodes.items n node) where
+  module _ (w : Running D a) (n thread : ℕ) (o : Option Refusal) (first : RefusesFirst a w (Close n thread) o) (none : o ≡ None) (node : NodeState D a) (read : node ≡ get_or w.nodes.items n node) where
+    known : is_known w.geometry (Close n thread) ≡ true
+    known = first.known none
+
     pub at : slice_get w.nodes.items n ≡ Some node
     at = stands a w (Close n thread) known n refl node read
 
@@ -85,7 +87,7 @@ module _ {D : Type 0} (a : Ghosts D) where
     pub places : (result : Result Reply AllocError) (mid : NodeState D a) → StepsNode a n (Reserve n thread) node result mid → (later : Running D a) → later.geometry ≡ w.geometry
         → later.nodes.items ≡ slice_set w.nodes.items n mid → later.travelling.items ≡ w.travelling.items → TriesRunning a w (Reserve n thread) result later
     places result mid steps later geometry nodes travelling =
-        node_tries a w (Reserve n thread) refl None refuses refl known runs n refl node read result mid steps later geometry nodes travelling
+        node_tries a w (Reserve n thread) refl o (record { refused = first.refused; names = first.names; unknown = λ refusal is. (let u = first.unknown refusal is in record { outside = u.outside; inside = u.inside }); known = first.known; running = first.running }) none n refl node read result mid steps later geometry nodes travelling
 
     pub closes : (mid : NodeState D a) (room : HasSameRoom a node mid) → mid.journal.log ≡ node.journal.log → (reply : Reply) (new : NodeState D a) → StepsNode a n (Close n thread) mid (Ok reply) new
         → (later : Running D a) → later.geometry ≡ w.geometry → later.nodes.items ≡ slice_set w.nodes.items n new → later.travelling.items ≡ w.travelling.items
@@ -94,8 +96,8 @@ module _ {D : Type 0} (a : Ghosts D) where
         let m = between mid room in
         let r : Result Reply AllocError = Ok reply in
         let here : mid ≡ get_or m.nodes.items n mid = sym (get_or-set_same w.nodes.items n mid mid (slice_get_within w.nodes.items n node at)) in
-        let goes : is_failed a mid.journal.log ≡ false = ap (is_failed a) log ∙ up_there a w (Close n thread) refl known runs n refl node read in
-        (node_tries a m (Close n thread) refl None (none_at_once a m (Close n thread) known n refl mid here goes) refl known (acts_running a m (Close n thread) known n refl mid here goes) n refl mid here r new steps later
+        let goes : is_failed a mid.journal.log ≡ false = ap (is_failed a) log ∙ up_there a w (Close n thread) refl known (first.running none) n refl node read in
+        (node_tries a m (Close n thread) refl None (first_serves a m (Close n thread) known n refl mid here goes) refl n refl mid here r new steps later
         geometry (nodes ∙ sym (set-set w.nodes.items n mid new)) travelling).steps
 
     pub node_ends : (result : Result Placement CallFault) (new : NodeState D a) → EndsNode a n thread node result new → (later : Running D a) → later.geometry ≡ w.geometry

@@ -1,4 +1,4 @@
--- Which replies tell of a failure, and what the calls of a device count.
+-- Of nodes that run: which replies tell of a failure, and what the calls of a device count.
 use Rattle.std.proofs.Common.{◌≡◌, ℕ, ◌+◌, Bool, true, false, List, map, Option, Some, slice_get, slice_set, refl, sym, ap, subst, ◌∙◌, true≢false}
 use Rattle.std.specs.Prelude.{option_map, if◌then◌else◌}
 use Rattle.std.proofs.lemmas.List.{map-set}

@@ -1,4 +1,4 @@
--- What is applied at a node and what waits there changes, and nothing else of the numbers.
+-- Of nodes that run: what is applied at a node and what waits there changes, and nothing else of the numbers.
 use Rattle.std.proofs.Common.{◌≡◌, ◌≢◌, ℕ, ◌-◌, ◌<◌, ◌≤◌, ◌||◌, ◌==◌, true, false, List, filter, nat_lt, nat_le, Option, Some, ap, refl, ◌∙◌, inl, inr, arith}
 use Rattle.std.specs.Prelude.{◌⊎◌, slice_get, if◌then◌else◌}
 use Rattle.std.proofs.lemmas.Bool.{eq-eqb, le-leb, le-ltb, lt-leb, lt-ltb, ne_eqb, or_right}

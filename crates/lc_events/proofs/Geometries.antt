@@ -1,4 +1,4 @@
--- The geometry of a store stays, and what it does not have is unknown.
+-- Of nodes that run: the geometry of a store stays, and what it does not have is unknown.
 use Rattle.std.proofs.Common.{◌≡◌, ◌≢◌, true, false, refl, sym, ap, ◌∙◌, true≢false}
 use Rattle.lc_record.specs.declared.geometry.Geometry.{Geometry}
 use Rattle.lc_model.specs.Refusals.{is_known}

@@ -4,7 +4,7 @@ use Rattle.std.specs.Prelude.{slice_get, slice_set, slice_index_or, vec_len}
 use Rattle.std.specs.Option.{ForSome}
 use Rattle.std.proofs.lemmas.Bool.{cases_eq}
 use Rattle.std.proofs.lemmas.List.{set-set}
-use Rattle.std.proofs.lemmas.Option.{get_or_from_slice_get}
+use Rattle.std.proofs.lemmas.Option.{get_or_from_slice_get, same_Some as same_some}
 use Rattle.lc_disk.specs.declared.area.Area.{Ghosts}
 use Rattle.lc_record.specs.Part.{number_in, part_of}
 use Rattle.lc_record.specs.declared.part.Part.{Part}
@@ -26,7 +26,6 @@ use Rattle.lc_desk.specs.InPlace.{LendsImage, PutsNext, TakesAtOnce}
 use Rattle.lc_events.specs.Nodes.{AreWhole}
 use Rattle.lc_settled.specs.Numbers.{Numbers}
 use Rattle.lc_desk.specs.Places.{get_set_other, get_set_same}
-use Rattle.lc_settled.specs.Places.{same_some}
 use Rattle.lc_journal.specs.Published.{LaysFound}
 use Rattle.lc_desk.specs.Receives.{CatchesUp, FollowsReceive, parts_over, received_numbers, reply_of, without_due}
 use Rattle.lc_events.specs.Running.{FitsRunning, Onward}

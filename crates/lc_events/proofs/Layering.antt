@@ -1,4 +1,4 @@
--- What an event that wants no memory does, from the nodes up to the store.
+-- Of nodes that run: what an event that wants no memory does, from the nodes up to the store.
 use Rattle.std.proofs.Common.{◌≡◌, ℕ, false, true, List, Option, Some, None, get_or, refl, sym, subst, ◌∙◌}
 use Rattle.std.specs.Prelude.{Result, Ok, Err, IfErr, option_map, slice_set}
 use Rattle.std.specs.declared.alloc.AllocError.{AllocError}
@@ -6,7 +6,7 @@ use Rattle.lc_disk.specs.declared.area.Area.{Ghosts}
 use Rattle.lc_record.specs.declared.geometry.Geometry.{Geometry}
 use Rattle.lc_token.specs.declared.token.Token.{Token}
 use Rattle.lc_model.specs.Machine.{Row}
-use Rattle.lc_model.specs.Refusals.{Unless, common_refusal, is_known, named}
+use Rattle.lc_model.specs.Refusals.{Unless, common_refusal, named}
 use Rattle.lc_model.specs.State.{Setting, State}
 use Rattle.lc_model.specs.declared.event.Event.{Event}
 use Rattle.lc_model.specs.declared.event.Event.TheVariants.{Read}
@@ -14,14 +14,16 @@ use Rattle.lc_model.specs.declared.refusal.Refusal.{Refusal}
 use Rattle.lc_model.specs.declared.reply.Reply.{Reply}
 use Rattle.lc_model.specs.declared.reply.Reply.TheVariants.{Refused}
 use Rattle.lc_desk.specs.FollowsDesk.{FollowsOpen}
-use Rattle.lc_events.specs.Geometries.{RefusesUnknown}
+use Rattle.lc_journal.specs.FaultReplies.{is_fault, is_unknown}
 use Rattle.lc_events.specs.Layers.{StepsRunning, TriesRunning}
-use Rattle.lc_events.specs.MayReply.{is_common}
+use Rattle.lc_events.specs.CallReplies.{calls_log}
+use Rattle.lc_events.specs.Faults.{SameLogs}
+use Rattle.lc_events.specs.MayReply.{may_answer}
 use Rattle.lc_desk.specs.MayReply.{may_read}
 use Rattle.lc_events.specs.NodeSteps.{StepsNode, is_own}
 use Rattle.lc_settled.specs.Numbers.{Numbers}
-use Rattle.lc_events.specs.Refuses.{ActsRunning, Refuses}
-use Rattle.lc_events.specs.Running.{FitsRunning, Onward}
+use Rattle.lc_events.specs.Refuses.{Refuses, RefusesFirst}
+use Rattle.lc_events.specs.Running.{FitsRunning, FollowsRow, Onward}
 use Rattle.lc_events.specs.Stepping.{StepsOn, TellsWriting, is_plain}
 use Rattle.lc_events.specs.declared.node_state.NodeState.{NodeState}
 use Rattle.lc_events.specs.declared.running.Running.{Running}
@@ -56,12 +58,14 @@ module _ {D : Type 0} (a : Ghosts D) where
       }
 
   -- what its node does, where nothing refuses it at once
-  module _ (w : Running D a) (event : Event) (own : is_own event ≡ true) (o : Option Refusal) (refuses : Refuses a w event o) (none : o ≡ None) (is : is_known w.geometry event ≡ true)
-      (runs : ActsRunning a (named event) w.nodes.items) (n : ℕ) (acts : Some n ≡ option_map (λ its. its.node) (named event)) (node : NodeState D a) (read : node ≡ get_or w.nodes.items n node)
+  module _ (w : Running D a) (event : Event) (own : is_own event ≡ true) (o : Option Refusal) (first : RefusesFirst a w event o) (none : o ≡ None) (n : ℕ) (acts : Some n ≡ option_map (λ its. its.node) (named event)) (node : NodeState D a) (read : node ≡ get_or w.nodes.items n node)
       (result : Result Reply AllocError) (new : NodeState D a) (steps : StepsNode a n event node result new)
       (later : Running D a) (geometry : later.geometry ≡ w.geometry) (nodes : later.nodes.items ≡ slice_set w.nodes.items n new) (travelling : later.travelling.items ≡ w.travelling.items) where
     pub node_tries : TriesRunning a w event result later
     node_tries =
+        let refuses = first.refused in
+        let is = first.known none in
+        let runs = first.running none in
         let follows = follows_there a w event own is runs n acts node read result new steps in
         let told = faults_there a w event own is runs n acts node read result new steps in
         let known = known_there a w event own is runs n acts node read result new steps in
@@ -82,31 +86,44 @@ module _ {D : Type 0} (a : Ghosts D) where
         }
 
   -- what is refused at once
-  pub refused_running : (w : Running D a) (event : Event) (o : Option Refusal) → Refuses a w event o → (refusal : Refusal) → o ≡ Some refusal → is_plain event ≡ true
-      → is_common refusal ≡ true → RefusesUnknown w.geometry event (Refused refusal) → StepsRunning a w event (Refused refusal) w
-  refused_running w event o refuses refusal some plain common unknown = record {
-    follows = refused_step a w event o refuses false refusal some plain;
-    counts = quiet a w event (Refused refusal) w (refused_log event refusal (common_quiet refusal common)) (common_quiet refusal common) (record { geometry = refl; logs = refl });
-    unknown = unknown;
-    names = common_may event refusal (plain_acts event plain) common;
-  }
+  pub refused_running : (w : Running D a) (event : Event) (o : Option Refusal) → RefusesFirst a w event o → (refusal : Refusal) → o ≡ Some refusal → is_plain event ≡ true → StepsRunning a w event (Refused refusal) w
+  refused_running w event o first refusal some plain =
+      let common = first.names refusal some in
+      record {
+        follows = refused_step a w event o first.refused false refusal some plain;
+        counts = quiet a w event (Refused refusal) w (refused_log event refusal (common_quiet refusal common)) (common_quiet refusal common) (record { geometry = refl; logs = refl });
+        unknown = first.unknown refusal some;
+        names = common_may event refusal (plain_acts event plain) common;
+      }
 
   -- also where it may want memory
-  pub refused_tries : (w : Running D a) (event : Event) (o : Option Refusal) → Refuses a w event o → (refusal : Refusal) → o ≡ Some refusal → is_plain event ≡ true
-      → is_common refusal ≡ true → RefusesUnknown w.geometry event (Refused refusal) → TriesRunning a w event (Ok (Refused refusal)) w
-  refused_tries w event o refuses refusal some plain common unknown = record {
-    steps = refused_running w event o refuses refusal some plain common unknown;
+  pub refused_tries : (w : Running D a) (event : Event) (o : Option Refusal) → RefusesFirst a w event o → (refusal : Refusal) → o ≡ Some refusal → is_plain event ≡ true → TriesRunning a w event (Ok (Refused refusal)) w
+  refused_tries w event o first refusal some plain = record {
+    steps = refused_running w event o first refusal some plain;
     memory = tt;
     err = tt;
     no_fault = tt;
   }
 
+  -- what goes beyond one node, and calls no log
+  module _ (w : Running D a) (event : Event) (o : Option Refusal) (first : RefusesFirst a w event o) (none : o ≡ None) where
+    pub moved_running : (reply : Reply) (later : Running D a) → FollowsRow a w event reply later → SameLogs a w later → calls_log event reply ≡ false → is_fault reply ≡ false → is_unknown reply ≡ false → may_answer event reply ≡ true
+        → StepsRunning a w event reply later
+    moved_running reply later follows logs free well known names = record {
+      follows = follows_step a w event o first.refused false event reply later none refl follows;
+      counts = quiet a w event reply later free well logs;
+      unknown = refuses_known w.geometry event reply (first.known none) known;
+      names = answers_may event reply names;
+    }
+
   -- what a thread is shown changes nothing
-  pub read_running : (w : Running D a) (n thread segment offset len : ℕ) (o : Option Refusal) → Refuses a w (Read n thread segment offset len) o → o ≡ None
-      → is_known w.geometry (Read n thread segment offset len) ≡ true → ActsRunning a (named (Read n thread segment offset len)) w.nodes.items → (node : NodeState D a) → node ≡ get_or w.nodes.items n node
+  pub read_running : (w : Running D a) (n thread segment offset len : ℕ) (o : Option Refusal) → RefusesFirst a w (Read n thread segment offset len) o → o ≡ None → (node : NodeState D a) → node ≡ get_or w.nodes.items n node
       → (reply : Reply) → ((k : ℕ) → FollowsOpen k node.desk (Read k thread segment offset len) reply node.desk) → may_read reply ≡ true
       → StepsRunning a w (Read n thread segment offset len) reply w
-  read_running w n thread segment offset len o refuses none is runs node read reply follows its =
+  read_running w n thread segment offset len o first none node read reply follows its =
+      let refuses = first.refused in
+      let is = first.known none in
+      let runs = first.running none in
       let event = Read n thread segment offset len in
       let r : Result Reply AllocError = Ok reply in
       let steps : StepsNode a n event node r node = desk_steps a n n event (λ k. Read k thread segment offset len) node r node.desk refl refl follows (refl, refl) refl tt tt its refl refl (λ e. absurd cc) (λ m s x. refl)

@@ -37,7 +37,6 @@ pub mod PageAnswers
 pub mod NodeWritten
 pub mod Paged
 pub mod LogAreas
-pub mod Asking
 pub mod Names
 pub mod Geometries
 pub mod Replying

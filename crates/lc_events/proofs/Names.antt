@@ -1,4 +1,4 @@
--- Which replies an event may get at all, kind by kind.
+-- Of nodes that run: which replies an event may get at all, kind by kind.
 use Rattle.std.proofs.Common.{◌≡◌, ℕ, Bool, true, false, ◌&&◌, nat_le, Some, refl, sym, ap, ◌∙◌}
 use Rattle.std.specs.Prelude.{is_some}
 use Rattle.std.proofs.lemmas.Bool.{or_right, or_left}

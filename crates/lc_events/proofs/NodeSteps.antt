@@ -3,6 +3,7 @@ use Rattle.std.proofs.Common.{Bool, ◌≡◌, ℕ, ◌<◌, true, false, ◌++�
 use Rattle.std.specs.Prelude.{Result, Ok, IfOk, OnErr, option_map, slice_get, slice_set, vec_len}
 use Rattle.std.specs.declared.alloc.AllocError.{AllocError}
 use Rattle.std.proofs.lemmas.Result.{IfOk-weaker}
+use Rattle.std.proofs.lemmas.Option.{same_Some as same_some}
 use Rattle.lc_disk.specs.declared.area.Area.{Ghosts}
 use Rattle.lc_record.specs.declared.geometry.Geometry.{Geometry}
 use Rattle.lc_model.specs.Refusals.{Named, are_known, by_thread, common_refusal, is_known, named}
@@ -26,7 +27,6 @@ use Rattle.lc_events.specs.NodeState.{FollowsNode, FollowsReserve, HasSameRoom, 
 use Rattle.lc_events.specs.NodeSteps.{IsOf, StepsNode, WantsOf, is_own}
 use Rattle.lc_events.specs.Nodes.{AreWhole}
 use Rattle.lc_settled.specs.Numbers.{Numbers}
-use Rattle.lc_settled.specs.Places.{same_some}
 use Rattle.lc_desk.specs.Prepares.{GetsPlace}
 use Rattle.lc_journal.specs.Logging.{end_of_records}
 use Rattle.lc_events.specs.Refuses.{ActsRunning}
@@ -48,26 +48,6 @@ use Rattle.lc_journal.proofs.Logged.{err_then}
 use Rattle.lc_events.proofs.Onward.{desk_still, stays_onward, still_onward, whole_set}
 use Rattle.lc_events.proofs.Sealing.{sealed_is}
 use Rattle.lc_events.proofs.Shortness.{same_count}
-
--- what one node does, but what reaches another or looks at it
-pub own_of : (event : Event) → is_plain event ≡ true → ((node segment : ℕ) → event ≡ Leave node segment → ⊥) → ((node segment : ℕ) → event ≡ Arrive node segment → ⊥)
-    → ((sender number segment to : ℕ) → event ≡ Deliver sender number segment to → ⊥) → ((node : ℕ) → event ≡ Trim node → ⊥) → is_own event ≡ true
-own_of (Begin node thread segments reading) plain leaves arrives delivers trims = refl
-own_of (SetRange node thread segment offset len) plain leaves arrives delivers trims = refl
-own_of (Write node thread segment offset bytes) plain leaves arrives delivers trims = refl
-own_of (Read node thread segment offset len) plain leaves arrives delivers trims = refl
-own_of (Abort node thread) plain leaves arrives delivers trims = refl
-own_of (Reserve node thread) plain leaves arrives delivers trims = refl
-own_of (Close node thread) plain leaves arrives delivers trims = refl
-own_of (FlushStep node) plain leaves arrives delivers trims = refl
-own_of (Leave node segment) plain leaves arrives delivers trims = absurd (leaves node segment refl)
-own_of (Arrive node segment) plain leaves arrives delivers trims = absurd (arrives node segment refl)
-own_of (Deliver sender number segment to) plain leaves arrives delivers trims = absurd (delivers sender number segment to refl)
-own_of (Trim node) plain leaves arrives delivers trims = absurd (trims node refl)
-own_of (PageStep node segment page) plain leaves arrives delivers trims = absurd cc
-own_of (ResetStep node) plain leaves arrives delivers trims = refl
-own_of (Stop choices) plain leaves arrives delivers trims = absurd cc
-own_of RecoverStep plain leaves arrives delivers trims = absurd cc
 
 -- the node that acts is the one that does it
 module _ (g : Geometry) (n threads : ℕ) (all : threads ≡ g.threads) where
@@ -148,6 +128,19 @@ module _ {D : Type 0} (a : Ghosts D) where
     err = tt;
     room = room;
     device = plain_tells (done_or is_turn) refl refl false refl reply old.journal.log new.journal.log names log;
+    no_fault = tt;
+    names = names;
+  }
+
+  -- a step of its log
+  pub device_steps : (n : ℕ) (event : Event) (old : NodeState D a) (reply : Reply) (new : NodeState D a) → FollowsNode a n event old reply new → HasSameRoom a old new
+      → TellsFault a (calls_log event reply) reply old.journal.log new.journal.log → may_answer event reply ≡ true → StepsNode a n event old (Ok reply) new
+  device_steps n event old reply new follows room device names = record {
+    follows = λ m s x sound common fits sealed. follows m s x sound common fits;
+    memory = tt;
+    err = tt;
+    room = room;
+    device = device;
     no_fault = tt;
     names = names;
   }

@@ -4,6 +4,7 @@ use Rattle.std.specs.Prelude.{max, slice_get, slice_set, if◌then◌else◌}
 use Rattle.std.specs.Vec.{with_item}
 use Rattle.std.proofs.lemmas.Bool.{cases_eq, eq-eqb, ne_eqb}
 use Rattle.std.proofs.lemmas.List.{length-set, map-set}
+use Rattle.std.proofs.lemmas.Option.{same_Some as same_some}
 use Rattle.lc_disk.specs.declared.area.Area.{Ghosts}
 use Rattle.lc_page.specs.PageVector.{settled_text}
 use Rattle.lc_record.specs.Content.{segment_of}
@@ -32,7 +33,6 @@ use Rattle.lc_desk.specs.Leaves.{HasToken, with_token}
 use Rattle.lc_events.specs.NodeState.{FitsNode, GoesOn}
 use Rattle.lc_settled.specs.Numbers.{Numbers, token_number}
 use Rattle.lc_desk.specs.Places.{get_set_other, get_set_same}
-use Rattle.lc_settled.specs.Places.{same_some}
 use Rattle.lc_settled.specs.Settled.{Settled, begun_number}
 use Rattle.lc_desk.specs.Slots.{Awaits, Besides, FitsSlot, FitsSlots, FitsToken, besides_of, segment_to}
 use Rattle.lc_settled.specs.Turns.{cleaned, page_settled, settled_with, written}

@@ -1,4 +1,4 @@
--- A token that stands at a node, and is known more of: the desk fits as before.
+-- Of nodes that run: a token that stands at a node, and is known more of: the desk fits as before.
 use Rattle.std.proofs.Common.{◌≡◌, ℕ, Option, Some, refl, sym, ap, subst, ◌∙◌}
 use Rattle.std.specs.Prelude.{List, length, slice_get, IsSome}
 use Rattle.lc_model.specs.History.{value}

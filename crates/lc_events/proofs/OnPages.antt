@@ -4,6 +4,7 @@ use Rattle.std.specs.Prelude.{◌↔◌, ◌||◌, if◌then◌else◌, slice_ge
 use Rattle.std.specs.List.{list_any}
 use Rattle.std.proofs.Math.Seq.{drop-nil}
 use Rattle.std.proofs.lemmas.Bool.{false_from_ne_true, true_from_ne_false}
+use Rattle.std.proofs.lemmas.Option.{same_Some as same_some}
 use Rattle.lc_record.specs.Content.{Content, segment_of}
 use Rattle.lc_record.specs.Transaction.{Transaction, all_set, holds, locks}
 use Rattle.lc_record.proofs.LockLemmas.{lock_holds}
@@ -21,7 +22,6 @@ use Rattle.lc_desk.specs.Desk.{FitsDesk}
 use Rattle.lc_settled.specs.Numbers.{sets_on}
 use Rattle.lc_desk.specs.Seat.{Seat, Free, Open, Reserved, holder_of}
 use Rattle.lc_desk.specs.Here.{the_images}
-use Rattle.lc_settled.specs.Places.{same_some}
 use Rattle.lc_events.specs.Showing.{content_with, open_writer}
 use Rattle.lc_desk.specs.Showing.{page_of}
 use Rattle.lc_tx.specs.Images.{IsHere, bytes_of}

@@ -2,6 +2,7 @@
 use Rattle.std.proofs.Common.{◌≡◌, ℕ, ◌+◌, List, Option, Some, None, sym, ap, subst, ◌∙◌, inl, inr}
 use Rattle.std.proofs.lemmas.Bool.{cases_eq}
 use Rattle.std.specs.Prelude.{slice_get, slice_set, vec_len}
+use Rattle.std.proofs.lemmas.Option.{same_Some as same_some}
 use Rattle.lc_disk.specs.declared.area.Area.{Ghosts}
 use Rattle.lc_record.specs.declared.geometry.Geometry.{Geometry}
 use Rattle.lc_token.specs.declared.token.Token.{Token}
@@ -18,7 +19,6 @@ use Rattle.lc_desk.specs.declared.desk.Desk.{Desk}
 use Rattle.lc_events.specs.NodeState.{FitsNode, GoesOn, moved_by}
 use Rattle.lc_settled.specs.Numbers.{Numbers}
 use Rattle.lc_desk.specs.Places.{get_set_other, get_set_same}
-use Rattle.lc_settled.specs.Places.{same_some}
 use Rattle.lc_events.specs.Nodes.{IsWhole, AreWhole}
 use Rattle.lc_events.specs.Running.{FitsAll, FitsTravelling, Onward}
 use Rattle.lc_desk.specs.Slots.{besides_of}

@@ -3,6 +3,7 @@ use Rattle.std.proofs.Common.{◌≡◌, ℕ, zero, suc, ◌+◌, ◌<◌, ◌�
 use Rattle.std.specs.Prelude.{is_some, if◌then◌else◌}
 use Rattle.std.specs.List.{list_any}
 use Rattle.std.proofs.lemmas.Bool.{and_from, le-ltb, lt-ltb}
+use Rattle.std.proofs.lemmas.Option.{same_Some as same_some}
 use Rattle.lc_model.specs.Machine.{Row, halting}
 use Rattle.lc_model.specs.Refusals.{common_refusal, is_at}
 use Rattle.lc_model.specs.Sound.{holders}
@@ -14,7 +15,6 @@ use Rattle.lc_model.specs.declared.refusal.Refusal.TheVariants.{DeviceFault, Not
 use Rattle.lc_model.specs.declared.reply.Reply.{Reply}
 use Rattle.lc_model.specs.declared.reply.Reply.TheVariants.{Refused, Stepped, Written}
 use Rattle.lc_settled.specs.Numbers.{Numbers, sets_on, stable, token_number}
-use Rattle.lc_settled.specs.Places.{same_some}
 use Rattle.lc_settled.specs.Settled.{IsAnswer, Settled, begun_number, is_unflushed, page_answer, page_call}
 
 module _ (m : Setting) (s : State) (x : Numbers) (n segment page : ℕ) where

@@ -1,4 +1,4 @@
--- How the pages of the areas stand, where nothing changes them, and what is done beside them.
+-- Of nodes that run: how the pages of the areas stand, where nothing changes them, and what is done beside them.
 use Rattle.std.proofs.Common.{Option, ◌≡◌, ℕ, ap}
 use Rattle.lc_page.specs.declared.page_text.PageText.{PageText}
 use Rattle.lc_model.specs.Merge.{Page as StorePage}

@@ -4,6 +4,7 @@ use Rattle.std.specs.Prelude.{◌&&◌, nat_le, slice_get, slice_set, vec_len, E
 use Rattle.std.specs.List.{list_any}
 use Rattle.std.proofs.lemmas.Bool.{cases_eq, leb-true, lt-leb, ltb-false, ltb-true, and_parts as and-both}
 use Rattle.std.proofs.lemmas.List.{length-drop, length-take-le}
+use Rattle.std.proofs.lemmas.Option.{same_Some as same_some}
 use Rattle.lc_disk.specs.declared.area.Area.{Ghosts}
 use Rattle.lc_page.specs.Page.{Page}
 use Rattle.lc_page.specs.PageVector.{entry_at}
@@ -44,7 +45,6 @@ use Rattle.lc_settled.specs.Numbers.{Numbers, sets_on, stable, token_number}
 use Rattle.lc_desk.specs.Pages.{BeginsIn, FitsArea, FollowsBegin, FollowsNext, IsOfNow, StepsIn, TellsNumbers}
 use Rattle.lc_events.specs.Paging.{HaltsFailed}
 use Rattle.lc_desk.specs.Places.{get_set_other, get_set_same}
-use Rattle.lc_settled.specs.Places.{same_some}
 use Rattle.lc_settled.specs.Settled.{Settled, begun_number, is_unflushed, page_call}
 use Rattle.lc_desk.specs.Showing.{page_of}
 use Rattle.lc_desk.specs.Slots.{FitsToken}

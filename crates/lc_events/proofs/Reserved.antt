@@ -1,4 +1,4 @@
--- A node's desk and journal together, at a reservation.
+-- Of nodes that run: a node's desk and journal together, at a reservation.
 use Rattle.std.proofs.Common.{◌≡◌, ℕ, Bool, true, false, List, [], ◌∷◌, ◌++◌, filter, Option, Some, None, refl, sym, ap, ◌∙◌, inl, inr, arith}
 use Rattle.std.specs.Prelude.{◌⊎◌, ◌≤◌, nat_lt, MatchBool, if◌then◌else◌}
 use Rattle.std.proofs.lemmas.Bool.{eq-eqb}

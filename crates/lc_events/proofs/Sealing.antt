@@ -1,4 +1,4 @@
--- A reset of a node's log.
+-- Of nodes that run: a reset of a node's log.
 use Rattle.std.proofs.Common.{◌≡◌, ℕ, false, refl}
 use Rattle.std.specs.Prelude.{nat_lt}
 use Rattle.lc_disk.specs.declared.area.Area.{Ghosts}

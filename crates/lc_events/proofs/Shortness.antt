@@ -1,4 +1,4 @@
--- The slots of a node stay as many, and their images as long.
+-- Of nodes that run: the slots of a node stay as many, and their images as long.
 use Rattle.std.proofs.Common.{◌≡◌, length, ap, arith}
 use Rattle.std.specs.Prelude.{vec_len}
 use Rattle.lc_desk.specs.Here.{the_images}

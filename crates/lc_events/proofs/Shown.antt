@@ -1,7 +1,8 @@
--- What a slot at a node shows is what the machine and the numbers have there.
+-- Of nodes that run: what a slot at a node shows is what the machine and the numbers have there.
 use Rattle.std.proofs.lemmas.Bool.{or_left}
 use Rattle.std.proofs.Common.{◌≡◌, ℕ, true, false, List, find, All, Option, None, Some, refl, sym, ap, ◌∙◌, arith, true≢false}
 use Rattle.std.specs.Prelude.{slice_get}
+use Rattle.std.proofs.lemmas.Option.{same_Some as same_some}
 use Rattle.lc_record.specs.Content.{Content, segment_of}
 use Rattle.lc_record.specs.Transaction.{Transaction, is_member, locks}
 use Rattle.lc_record.proofs.LockLemmas.{lock_holds}
@@ -16,7 +17,6 @@ use Rattle.lc_tx.specs.Images.{IsHere, bytes_of, holders_of}
 use Rattle.lc_tx.specs.declared.tx.Tx.{Tx}
 use Rattle.lc_desk.specs.Desk.{FitsDesk}
 use Rattle.lc_desk.specs.Here.{the_images}
-use Rattle.lc_settled.specs.Places.{same_some}
 use Rattle.lc_desk.specs.Seat.{Seat, Free, Open, Reserved, holder_of}
 use Rattle.lc_events.specs.Showing.{content_with, open_writer}
 use Rattle.lc_desk.specs.declared.here.Here.{Here}

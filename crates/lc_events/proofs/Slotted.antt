@@ -1,10 +1,10 @@
--- What stands in a node's slots, where the machine goes on and tokens leave and come.
+-- Of nodes that run: what stands in a node's slots, where the machine goes on and tokens leave and come.
 use Rattle.std.proofs.Common.{◌≡◌, ℕ, zero, suc, ◌+◌, ◌-◌, ◌≤◌, Bool, true, false, List, [], ◌∷◌, ◌++◌, map, filter, take, length, get_or, All, Option, Some, None, refl, sym, ap, subst, ◌∙◌, inl, inr, arith, true≢false}
 use Rattle.std.specs.Prelude.{slice_get, slice_set, option_map, IsSome, if◌then◌else◌}
 use Rattle.std.specs.Option.{ForSome}
 use Rattle.std.specs.Vec.{with_item}
 use Rattle.std.proofs.lemmas.Bool.{cases_eq, false_from_ne_true}
-use Rattle.std.proofs.lemmas.Option.{slice_get-map, slice_get_within}
+use Rattle.std.proofs.lemmas.Option.{slice_get-map, slice_get_within, same_Some as same_some}
 use Rattle.std.proofs.lemmas.List.{take-append-le, take_all, length-map, length-set, map-set}
 use Rattle.std.proofs.lemmas.List.Elements.{All-head, All-tail, filter-append}
 use Rattle.lc_record.specs.Content.{segment_of}
@@ -40,7 +40,6 @@ use Rattle.lc_settled.specs.FollowsDesk.{SameButOpen}
 use Rattle.lc_desk.specs.Here.{number_in, number_at, hidden, beside}
 use Rattle.lc_desk.specs.Leaves.{with_token}
 use Rattle.lc_settled.specs.Numbers.{Numbers, token_number}
-use Rattle.lc_settled.specs.Places.{same_some}
 use Rattle.lc_desk.specs.Places.{get_set_same, get_set_other}
 use Rattle.lc_desk.specs.Prepares.{FitsNumbers}
 use Rattle.lc_desk.specs.Slots.{Besides, besides_of, segment_to, Awaits, FitsToken, FitsSlot, FitsSlots}

@@ -3,6 +3,7 @@ use Rattle.std.proofs.Common.{◌≡◌, ℕ, suc, ◌+◌, ◌-◌, ◌≤◌, 
 use Rattle.std.specs.Prelude.{MatchOption, List, max, map, slice_get, is_some, nat_lt, IsSome, if◌then◌else◌, Ok, Err}
 use Rattle.std.specs.Option.{ForSome}
 use Rattle.std.proofs.lemmas.Bool.{cases_eq, eq-eqb, le-ltb, lt-ltb, ne_eqb}
+use Rattle.std.proofs.lemmas.Option.{same_Some as same_some}
 use Rattle.lc_disk.specs.declared.area.Area.{Ghosts}
 use Rattle.lc_record.specs.Content.{segment_of}
 use Rattle.lc_record.proofs.ListLemmas.{slice_get-map_some as get-map}
@@ -31,7 +32,6 @@ use Rattle.lc_desk.specs.Here.{beside, the_images, number_in, number_at, image_a
 use Rattle.lc_desk.specs.Leaves.{Leaves, MayLeave}
 use Rattle.lc_events.specs.NodeState.{FitsNode, GoesOn}
 use Rattle.lc_settled.specs.Numbers.{Numbers, token_number}
-use Rattle.lc_settled.specs.Places.{same_some}
 use Rattle.lc_settled.specs.Settled.{Settled, is_writing, leave_answer, arrive_answer, open_answer, refusal_or}
 use Rattle.lc_desk.specs.Slots.{FitsSlots, FitsToken, besides_of}
 use Rattle.lc_desk.specs.TokenRefused.{token_refusal}

@@ -4,7 +4,7 @@ use Rattle.std.specs.Prelude.{slice_get, slice_set, nat_le, ◌&&◌}
 use Rattle.std.specs.Option.{ForSome}
 use Rattle.std.proofs.lemmas.Bool.{cases_eq, and_parts as and-both}
 use Rattle.std.proofs.lemmas.List.{length-set}
-use Rattle.std.proofs.lemmas.Option.{slice_get_read}
+use Rattle.std.proofs.lemmas.Option.{slice_get_read, same_Some as same_some}
 use Rattle.lc_disk.specs.declared.area.Area.{Ghosts}
 use Rattle.lc_record.specs.declared.geometry.Geometry.{Geometry}
 use Rattle.lc_token.specs.declared.token.Token.{Token}
@@ -20,7 +20,6 @@ use Rattle.lc_events.specs.NodeState.{GoesOn, moved_by}
 use Rattle.lc_events.specs.Nodes.{AreNamed}
 use Rattle.lc_settled.specs.Numbers.{Numbers}
 use Rattle.lc_desk.specs.Places.{get_set_other, get_set_same}
-use Rattle.lc_settled.specs.Places.{same_some}
 use Rattle.lc_events.specs.Running.{FitsAll, FitsTravelling, Onward}
 use Rattle.lc_settled.specs.Settled.{arrive_answer}
 use Rattle.lc_desk.specs.Slots.{FitsToken}

@@ -1,9 +1,9 @@
--- The published records that every node has applied are counted, and trimmed.
+-- Of nodes that run: the published records that every node has applied are counted, and trimmed.
 use Rattle.std.proofs.Common.{◌≡◌, ℕ, zero, suc, ◌+◌, ◌-◌, ◌<◌, ◌≤◌, Bool, true, false, List, [], ◌∷◌, map, length, take, Some, slice_get, refl, sym, ap, ◌∙◌, arith, below_more}
 use Rattle.std.specs.Prelude.{◌&&◌}
 use Rattle.std.specs.List.{list_all}
 use Rattle.std.proofs.lemmas.List.{length-drop, length-take-le}
-use Rattle.std.proofs.lemmas.Option.{slice_get_within}
+use Rattle.std.proofs.lemmas.Option.{slice_get_within, same_Some as same_some}
 use Rattle.std.proofs.Math.Bool.{and-false as and_false}
 use Rattle.lc_disk.specs.declared.area.Area.{Ghosts}
 use Rattle.lc_record.specs.Marks.{counting}
@@ -16,7 +16,6 @@ use Rattle.lc_model.specs.Stored.{records_of}
 use Rattle.lc_model.proofs.Moves.{acked-records}
 use Rattle.lc_journal.specs.Follows.{FitsJournal}
 use Rattle.lc_settled.specs.Numbers.{Numbers, published}
-use Rattle.lc_settled.specs.Places.{same_some}
 use Rattle.lc_journal.specs.Records.{Spelled, count_of, front_of}
 use Rattle.lc_events.specs.Trimming.{is_done, AllFit, TellsLocks, Counts}
 use Rattle.lc_journal.specs.declared.journal.Journal.{Journal}

@@ -1,7 +1,7 @@
 -- A node whose journal is trimmed goes on.
 use Rattle.std.proofs.Common.{◌≡◌, ℕ, ◌+◌, map, refl, sym, ap, subst, ◌∙◌}
 use Rattle.std.specs.Prelude.{List, length, ◌+◌, ◌<◌, ◌≤◌, Some, slice_get, slice_index_or}
-use Rattle.std.proofs.lemmas.Option.{slice_get_read}
+use Rattle.std.proofs.lemmas.Option.{slice_get_read, same_Some as same_some}
 use Rattle.lc_disk.specs.declared.area.Area.{Ghosts}
 use Rattle.lc_model.specs.History.{leading}
 use Rattle.lc_model.specs.State.{Setting, State, update}
@@ -12,7 +12,6 @@ use Rattle.lc_journal.specs.Beside.{BesideLogs}
 use Rattle.lc_journal.specs.Logging.{Trims}
 use Rattle.lc_events.specs.NodeState.{FitsNode, GoesOn}
 use Rattle.lc_settled.specs.Numbers.{Numbers, published}
-use Rattle.lc_settled.specs.Places.{same_some}
 use Rattle.lc_settled.specs.Settled.{trim_answer}
 use Rattle.lc_desk.specs.Slots.{besides_of}
 use Rattle.lc_events.specs.Trimming.{Counts, is_done}

@@ -1,4 +1,4 @@
--- Pieces of work that follow one another, up to the first refusal.
+-- Of nodes that run: pieces of work that follow one another, up to the first refusal.
 use Rattle.std.specs.Prelude.{None}
 use Rattle.std.proofs.Common.{◌≡◌, refl}
 use Rattle.lc_model.specs.declared.refusal.Refusal.{Refusal}

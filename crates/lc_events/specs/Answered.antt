@@ -1,4 +1,4 @@
--- What the calls of a store hand out, as the replies to their events.
+-- Of nodes that run: what the calls of a store hand out, as the replies to their events.
 use Rattle.std.specs.Prelude.{◌≡◌, ℕ, Bool, true, false, Option, Some, None, Result, Ok, Err}
 use Rattle.lc_model.specs.declared.event.Event.{Event}
 use Rattle.lc_model.specs.declared.event.Event.TheVariants.{Begin, Write, Abort, Close, Leave, Arrive}

@@ -1,4 +1,4 @@
--- What the other nodes need to know of a step of one node.
+-- Of nodes that run: what the other nodes need to know of a step of one node.
 use Rattle.std.specs.Prelude.{◌≡◌, ◌≤◌, ℕ}
 use Rattle.lc_record.specs.declared.part.Part.{Part}
 use Rattle.lc_token.specs.declared.token.Token.{Token}

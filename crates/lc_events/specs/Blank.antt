@@ -1,4 +1,4 @@
--- What stands ready before the pages of a store are known, and how its nodes are filled with them.
+-- Of nodes that run: what stands ready before the pages of a store are known, and how its nodes are filled with them.
 use Rattle.std.specs.Prelude.{◌≡◌, ◌≤◌, ℕ}
 use Rattle.lc_disk.specs.declared.area.Area.{Ghosts}
 use Rattle.lc_record.specs.declared.geometry.Geometry.{Geometry}

@@ -1,4 +1,4 @@
--- Which events and replies tell of a call of an area, and of which area.
+-- Of nodes that run: which events and replies tell of a call of an area, and of which area.
 use Rattle.std.specs.Prelude.{◌≡◌, Bool, true, false, not}
 use Rattle.lc_disk.specs.declared.area.Area.{Ghosts}
 use Rattle.lc_log.specs.OneCall.{IsOneCall}

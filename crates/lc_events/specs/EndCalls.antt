@@ -1,4 +1,5 @@
--- How a transaction ends, layer by layer of a store: it gets its place in the log, and its record is closed there.
+-- Of nodes that run: how a transaction ends, layer by layer of a store: it gets its place in the log, and its record
+-- is closed there.
 use Rattle.std.specs.Prelude.{◌≡◌, ◌⊎◌, ℕ, Result, Ok, Err, alloc_error}
 use Rattle.std.specs.declared.alloc.AllocError.{AllocError}
 use Rattle.lc_disk.specs.declared.area.Area.{Ghosts}

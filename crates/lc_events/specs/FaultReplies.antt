@@ -1,4 +1,5 @@
--- Which replies tell that a device has failed, how often devices have failed then, and which replies tell of something unknown.
+-- Of nodes that run: which replies tell that a device has failed, how often devices have failed then, and which
+-- replies tell of something unknown.
 use Rattle.std.specs.Prelude.{◌≡◌, ℕ, ◌+◌, Bool, true, false, List, Option, Some, slice_get, slice_set}
 use Rattle.lc_disk.specs.declared.area.Area.{Ghosts}
 use Rattle.lc_log.specs.OneCall.{IsOneCall}

@@ -1,4 +1,4 @@
--- How often the devices of a store have failed, and what its replies tell of it.
+-- Of nodes that run: how often the devices of a store have failed, and what its replies tell of it.
 use Rattle.std.specs.Prelude.{◌≡◌, ℕ, Bool, true, false, List, map, Option}
 use Rattle.lc_disk.specs.declared.area.Area.{Ghosts}
 use Rattle.lc_model.specs.declared.event.Event.{Event}

@@ -1,4 +1,4 @@
--- What comes up after a recovery.
+-- Of nodes that run: what comes up after a recovery.
 use Rattle.std.specs.Prelude.{ℕ, ◌%◌, ◌==◌, if◌then◌else◌}
 use Rattle.lc_recover.specs.Recovered.{RecoveredStore, sequence_of}
 

@@ -1,4 +1,4 @@
--- The geometry of a store, and what it refuses as unknown.
+-- Of nodes that run: the geometry of a store, and what it refuses as unknown.
 use Rattle.std.specs.Prelude.{◌≡◌, ◌≢◌, Bool, true, false}
 use Rattle.lc_record.specs.declared.geometry.Geometry.{Geometry}
 use Rattle.lc_model.specs.Refusals.{is_known}

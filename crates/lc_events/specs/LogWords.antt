@@ -1,4 +1,4 @@
--- What is shown of the log of a node, and what stays as it was.
+-- Of nodes that run: what is shown of the log of a node, and what stays as it was.
 use Rattle.std.specs.Prelude.{◌≡◌, ℕ, Bool, List, Option, Some, slice_get, slice_set, option_and_then}
 use Rattle.lc_disk.specs.declared.area.Area.{Ghosts}
 use Rattle.lc_journal.specs.Log.{area_of}

@@ -1,4 +1,4 @@
--- Which replies an event may get at all, whatever the store holds and whatever its areas are.
+-- Of nodes that run: which replies an event may get at all, whatever the store holds and whatever its areas are.
 use Rattle.std.specs.Prelude.{Bool, true, false, ◌&&◌, ◌||◌, Some, is_some}
 use Rattle.lc_model.specs.Machine.{may_deliver, may_page, may_refuse_reserve, may_reset, may_trim}
 use Rattle.lc_model.specs.Refusals.{named}

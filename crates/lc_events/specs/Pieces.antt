@@ -1,4 +1,4 @@
--- The pieces that a store is made of, and how they stand in it.
+-- Of nodes that run: the pieces that a store is made of, and how they stand in it.
 use Rattle.std.specs.Prelude.{◌≡◌, ℕ, List, length, replicate, Option}
 use Rattle.lc_disk.specs.declared.area.Area.{Ghosts}
 use Rattle.lc_record.specs.declared.geometry.Geometry.{Geometry}

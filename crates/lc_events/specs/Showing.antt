@@ -1,4 +1,4 @@
--- What a node's image of a segment shows.
+-- Of nodes that run: what a node's image of a segment shows.
 use Rattle.std.specs.Prelude.{ℕ, find, Option, None, Some}
 use Rattle.lc_record.specs.Content.{Content}
 use Rattle.lc_record.specs.Transaction.{Transaction, locks}

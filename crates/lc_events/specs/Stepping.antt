@@ -1,4 +1,4 @@
--- What it is that a running store follows the machine and the numbers, step by step.
+-- Of nodes that run: what it is that a running store follows the machine and the numbers, step by step.
 use Rattle.std.specs.Prelude.{◌≡◌, ◌≤◌, Bool, true, false, List, Option, None}
 use Rattle.lc_disk.specs.declared.area.Area.{Ghosts}
 use Rattle.lc_record.specs.declared.geometry.Geometry.{Geometry}

@@ -1,4 +1,4 @@
--- What it is that records are counted which every node has applied.
+-- Of nodes that run: what it is that records are counted which every node has applied.
 use Rattle.std.specs.Prelude.{◌≡◌, ℕ, Bool, List, map, nat_le, length, Some, slice_get}
 use Rattle.std.specs.List.{list_all}
 use Rattle.lc_disk.specs.declared.area.Area.{Ghosts}

@@ -1,5 +1,5 @@
--- What a truncation of a node's log is: its flush, the writes of the pages that are due, none of which begins where one is blocked,
--- and its reset, up to the first refusal.
+-- Of nodes that run: what a truncation of a node's log is: its flush, the writes of the pages that are due, none of
+-- which begins where one is blocked, and its reset, up to the first refusal.
 use Rattle.std.specs.Prelude.{ℕ, Bool, false, Option, Some, None}
 use Rattle.lc_model.specs.declared.refusal.Refusal.{Refusal}
 use Rattle.lc_model.specs.declared.reply.Reply.{Reply}

@@ -1,4 +1,4 @@
--- What a stop of a store would lose.
+-- Of nodes that run: what a stop of a store would lose.
 use Rattle.std.specs.Prelude.{ℕ, ◌-◌, ◌^◌, List, min}
 use Rattle.std.specs.List.{sum_by}
 use Rattle.lc_disk.specs.declared.area.Area.{Ghosts}

@@ -8,7 +8,6 @@ mod flush_progress;
 mod named;
 mod node_pages;
 mod node_state;
-mod node_steps;
 mod placement;
 pub mod reply_values;
 mod reset_progress;

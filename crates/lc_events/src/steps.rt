@@ -1,83 +1,49 @@
-//! Each event of the nodes that run.
-ghost use Rattle.std.specs.Prelude.{◌≡◌, true, IfOk, OnErr, ◌<◌, false, vec_len, None, ◌≢◌, ℕ, Some, Err, slice_get};
-ghost use Rattle.std.specs.Prelude.{slice_index_or};
-ghost use Rattle.lc_events.specs.Running.{StillFitsAll, FollowsRow};
-ghost use Rattle.lc_events.specs.Stepping.{AsksMemory, FollowsStep, is_plain, Wants};
-ghost use Rattle.lc_events.specs.Faults.{CountsLogs, SameLogs, SameLogAreas, SameDevices};
-ghost use Rattle.lc_events.specs.Geometries.{RefusesUnknown};
-ghost use Rattle.lc_events.specs.MayReply.{may_reply, may_answer, is_common};
-ghost use Rattle.lc_model.specs.Machine.{may_trim};
+//! The steps of the nodes that run, and why a step is refused before its row is asked.
+ghost use Rattle.std.specs.Prelude.{◌≡◌, ◌≢◌, ◌<◌, ℕ, true, false, None, Some, Err, IfOk, vec_len, slice_get};
+ghost use Rattle.std.specs.Prelude.{option_map, slice_index_or};
 ghost use Rattle.lc_model.specs.Refusals.{is_known, named};
-ghost use Rattle.lc_model.specs.declared.event.Event.TheVariants.{PageStep, Trim, Close, SetRange};
-ghost use Rattle.lc_events.specs.CallReplies.{CalledAs};
+ghost use Rattle.lc_model.specs.declared.event.Event.{Event};
+ghost use Rattle.lc_model.specs.declared.event.Event.TheVariants.{FlushStep, PageStep, ResetStep};
 ghost use Rattle.lc_journal.specs.FaultReplies.{is_unknown};
-ghost use Rattle.lc_events.specs.NodeSteps.{is_own};
-ghost use Rattle.lc_events.specs.Paging.{FollowsPaging};
-ghost use Rattle.lc_events.specs.Refuses.{ActsRunning, Refuses};
-ghost use Rattle.std.specs.Option.{ForSome};
-ghost use Rattle.lc_model.specs.declared.reply.Reply.TheVariants.{Refused};
 ghost use Rattle.lc_journal.specs.Log.{area_of};
-ghost use Rattle.lc_events.specs.LogWords.{IsNodeKept, IsNodeRead, log_in};
 ghost use Rattle.lc_journal.specs.LogWords.{has_failed};
-ghost use Rattle.lc_events.specs.declared.node_state.NodeState.{NodeState as TheNode};
 ghost use Rattle.lc_journal.specs.declared.show_fault.ShowFault.TheVariants.{Unknown};
+ghost use Rattle.lc_events.specs.CallReplies.{CalledAs};
+ghost use Rattle.lc_events.specs.Faults.{SameLogAreas, SameDevices};
+ghost use Rattle.lc_events.specs.Layers.{StepsRunning};
+ghost use Rattle.lc_events.specs.LogWords.{IsNodeKept, IsNodeRead, log_in};
+ghost use Rattle.lc_events.specs.MayReply.{may_reply};
+ghost use Rattle.lc_events.specs.Paging.{FollowsPaging};
+ghost use Rattle.lc_events.specs.Refuses.{RefusesFirst};
+ghost use Rattle.lc_events.specs.declared.node_state.NodeState.{NodeState as TheNode};
 
-use crate::named::{acting_node, is_known, is_seat, knows_place};
+use crate::named::{is_node, is_page_of};
 use crate::running::Running;
-use crate::trimming::applied_in_front;
 use lc_desk::Pages;
 use lc_disk::Area;
 use lc_journal::ShowFault;
-use lc_model::{Event, Refusal, Reply};
-use std::alloc::{AllocError, Global};
+use lc_model::{Refusal, Reply};
+use std::alloc::Global;
 
 impl<D: Area + Drop> Running<D> {
-    /// An event that is no step of a page write, no stop and no step of a recovery. `writing` says whether a
-    /// page is being written of the segment whose token is to leave. Where memory is wanted nothing has changed.
-    pub fn step(&mut self, alloc: Global, event: &Event, writing: bool) -> Result<Reply, AllocError>
-        requires plain { is_plain event.now ≡ true }
-        ensures follows { IfOk result (λ reply. FollowsStep D.Area writing self.old event.now reply self.new) }
-        ensures memory { OnErr result (AsksMemory D.Area self.old event.now) }
-        ensures err { OnErr result (StillFitsAll D.Area self.old self.new) }
-        ensures faults { IfOk result (λ reply. CountsLogs D.Area self.old event.now reply self.new) }
-        ensures no_fault { OnErr result (SameLogs D.Area self.old self.new) }
-        ensures unknown { IfOk result (RefusesUnknown self.old.geometry event.now) }
-        ensures names { IfOk result (λ reply. may_reply event.now reply ≡ true) }
+    /// One step of a flush of a node's log. It takes no memory.
+    pub fn flush_step(&mut self, node: u16) -> Reply
+        ensures { StepsRunning D.Area self.old (FlushStep node) result self.new }
     {
-        if let Some(refusal) = self.refusal(event) {
-            return Ok(Reply::Refused(refusal));
+        if let Some(refusal) = self.refusal(node, is_node(&self.geometry, node)) {
+            return Reply::Refused(refusal);
         }
-        match event {
-            Event::Leave { node, segment } => Ok(self.leave(*node, *segment, writing)),
-            Event::Arrive { node, segment } => Ok(self.arrive(*node, *segment)),
-            Event::Deliver {
-                sender,
-                number,
-                segment,
-                to,
-            } => self.deliver(alloc, *sender, *number, *segment, *to),
-            Event::Trim { node } => Ok(self.trim(*node)),
-            _ => self.step_at(alloc, event),
-        }
+        self.nodes[node as usize].flush_step()
     }
 
-    /// An event that one node does alone, at that node.
-    pub(crate) fn step_at(&mut self, alloc: Global, event: &Event) -> Result<Reply, AllocError>
-        requires own { is_own event.now ≡ true }
-        requires known { is_known self.old.geometry event.now ≡ true }
-        requires running { ActsRunning D.Area (named event.now) self.old.nodes.items }
-        ensures follows { IfOk result (λ reply. FollowsRow D.Area self.old event.now reply self.new) }
-        ensures memory { OnErr result (Wants D.Area self.old event.now) }
-        ensures err { OnErr result (StillFitsAll D.Area self.old self.new) }
-        ensures faults { IfOk result (λ reply. CountsLogs D.Area self.old event.now reply self.new) }
-        ensures no_fault { OnErr result (SameLogs D.Area self.old self.new) }
-        ensures known { IfOk result (λ reply. is_unknown reply ≡ false) }
-        ensures names { IfOk result (λ reply. may_answer event.now reply ≡ true) }
+    /// One of the four steps that empty a node's log. It takes no memory.
+    pub fn reset_step(&mut self, node: u16) -> Reply
+        ensures { StepsRunning D.Area self.old (ResetStep node) result self.new }
     {
-        let Some(node) = acting_node(event) else {
-            unreachable!();
-        };
-        self.nodes[node as usize].step(alloc, node, event)
+        if let Some(refusal) = self.refusal(node, is_node(&self.geometry, node)) {
+            return Reply::Refused(refusal);
+        }
+        self.nodes[node as usize].reset_step()
     }
 
     /// One of the six device calls of a write of a page of a segment, whose area and page writes these are.
@@ -96,79 +62,22 @@ impl<D: Area + Drop> Running<D> {
         self.nodes[node as usize].page_step(segment, page, pages)
     }
 
-    /// A node drops of its published records those in front that every node has applied.
-    pub(crate) fn trim(&mut self, node: u16) -> Reply
-        requires known { is_known self.old.geometry (Trim node) ≡ true }
-        ensures follows { FollowsRow D.Area self.old (Trim node) result self.new }
-        ensures names { may_trim result ≡ true }
-        ensures logs { SameLogs D.Area self.old self.new }
+    /// Why a step of a page write is refused before its row is asked, if it is. It takes no memory.
+    pub fn page_refusal(&self, node: u16, segment: u32, page: u32) -> Option<Refusal>
+        ensures { RefusesFirst D.Area self.now (PageStep node segment page) result }
     {
-        let nodes = self.nodes.as_slice();
-        let count = applied_in_front(nodes, &nodes[node as usize].journal);
-        self.nodes[node as usize].journal.trim(count);
-        Reply::Trimmed(count)
+        self.refusal(node, is_page_of(&self.geometry, node, segment, page))
     }
 
-    /// Why an event is refused at once, whatever it asks for: what it names is unknown, or its node is halted.
-    pub fn refusal(&self, event: &Event) -> Option<Refusal>
-        ensures refused { Refuses D.Area self.now event.now result }
-        ensures names { ForSome result (λ refusal. is_common refusal ≡ true) }
-        ensures unknown { ForSome result (λ refusal. RefusesUnknown self.now.geometry event.now (Refused refusal)) }
-        ensures known { result ≡ None → is_known self.now.geometry event.now ≡ true }
-        ensures running { result ≡ None → ActsRunning D.Area (named event.now) self.now.nodes.items }
+    /// Why an event at this node is refused before its row is asked: something that it names is not known, or the node
+    /// is halted.
+    pub(crate) fn refusal(&self, node: u16, known: bool) -> Option<Refusal>
+        ensures { (event : Event) → known ≡ is_known self.now.geometry event
+            → Some node ≡ option_map (λ its. its.node) (named event) → RefusesFirst D.Area self.now event result }
     {
-        if !is_known(&self.geometry, event) {
-            return Some(Refusal::Unknown);
-        }
-        let node = acting_node(event)?;
-        let log = &self.nodes[node as usize].journal.log;
-        if log.is_failed() {
-            Some(Refusal::Halted)
-        } else {
-            None
-        }
-    }
-
-    /// Why what a thread asks of a segment is refused at once, whatever it asks, be it a range of none: the node, the
-    /// thread or the segment is unknown, or the node is halted.
-    pub(crate) fn place_refusal(&self, node: u16, thread: u16, segment: u32) -> Option<Refusal>
-        ensures refused { Refuses D.Area self.now (SetRange node thread segment 0 0) result }
-        ensures names { ForSome result (λ refusal. is_common refusal ≡ true) }
-        ensures unknown { ForSome result (λ refusal.
-            RefusesUnknown self.now.geometry (SetRange node thread segment 0 0) (Refused refusal)) }
-        ensures known { result ≡ None → is_known self.now.geometry (SetRange node thread segment 0 0) ≡ true }
-        ensures running { result ≡ None → ActsRunning D.Area
-            (named (SetRange node thread segment 0 0)) self.now.nodes.items }
-    {
-        if !knows_place(&self.geometry, node, thread, segment) {
-            return Some(Refusal::Unknown);
-        }
-        let log = &self.nodes[node as usize].journal.log;
-        if log.is_failed() {
-            Some(Refusal::Halted)
-        } else {
-            None
-        }
-    }
-
-    /// Why what a thread asks without a segment is refused at once, be it a close: the node or the thread is unknown,
-    /// or the node is halted.
-    pub(crate) fn seat_refusal(&self, node: u16, thread: u16) -> Option<Refusal>
-        ensures refused { Refuses D.Area self.now (Close node thread) result }
-        ensures names { ForSome result (λ refusal. is_common refusal ≡ true) }
-        ensures unknown { ForSome result (λ refusal.
-            RefusesUnknown self.now.geometry (Close node thread) (Refused refusal)) }
-        ensures known { result ≡ None → is_known self.now.geometry (Close node thread) ≡ true }
-        ensures running { result ≡ None → ActsRunning D.Area (named (Close node thread)) self.now.nodes.items }
-    {
-        if !is_seat(&self.geometry, node, thread) {
-            return Some(Refusal::Unknown);
-        }
-        let log = &self.nodes[node as usize].journal.log;
-        if log.is_failed() {
-            Some(Refusal::Halted)
-        } else {
-            None
+        match self.nodes.get(node as usize) {
+            Some(its) if known => its.journal.log.is_failed().then_some(Refusal::Halted),
+            _ => Some(Refusal::Unknown),
         }
     }
 

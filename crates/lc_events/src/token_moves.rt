@@ -3,15 +3,19 @@ ghost use Rattle.std.specs.Prelude.{◌≡◌, true, IfOk, OnErr};
 ghost use Rattle.lc_model.specs.Refusals.{is_known};
 ghost use Rattle.lc_model.specs.declared.event.Event.TheVariants.{Arrive, Leave, Deliver};
 ghost use Rattle.lc_events.specs.Running.{FollowsLeaving, FollowsRow, StillFitsAll};
+ghost use Rattle.lc_events.specs.Geometries.{RefusesUnknown};
+ghost use Rattle.lc_events.specs.Layers.{StepsRunning, TriesRunning};
+ghost use Rattle.lc_events.specs.Stepping.{FollowsStep};
 ghost use Rattle.lc_desk.specs.MayReply.{done_or, may_refuse_leave};
-ghost use Rattle.lc_events.specs.MayReply.{may_refuse_arrive};
-ghost use Rattle.lc_events.specs.Faults.{SameLogs};
+ghost use Rattle.lc_events.specs.MayReply.{may_refuse_arrive, may_reply};
+ghost use Rattle.lc_events.specs.Faults.{CountsLogs, SameLogs};
 ghost use Rattle.lc_record.specs.Part.{number_in};
 ghost use Rattle.lc_model.specs.Machine.{may_deliver};
 ghost use Rattle.lc_events.specs.Delivers.{Brings, WantsPart};
 ghost use Rattle.lc_desk.specs.Receives.{reply_of};
 ghost use Rattle.lc_desk.specs.TokenRefused.{token_refusal};
 
+use crate::named::{knows_delivery, knows_token};
 use crate::running::Running;
 use lc_disk::Area;
 use lc_journal::Published;
@@ -22,8 +26,21 @@ use std::alloc::{AllocError, Global};
 
 impl<D: Area + Drop> Running<D> {
     /// The token of a segment leaves a node: it is on its way then. `writing` says whether a page of the segment is
-    /// being written.
-    pub(crate) fn leave(&mut self, node: u16, segment: u32, writing: bool) -> Reply
+    /// being written. It takes no memory.
+    pub fn leave(&mut self, node: u16, segment: u32, writing: bool) -> Reply
+        ensures follows { FollowsStep D.Area writing self.old (Leave node segment) result self.new }
+        ensures counts { CountsLogs D.Area self.old (Leave node segment) result self.new }
+        ensures unknown { RefusesUnknown self.old.geometry (Leave node segment) result }
+        ensures names { may_reply (Leave node segment) result ≡ true }
+    {
+        if let Some(refusal) = self.refusal(node, knows_token(&self.geometry, node, segment)) {
+            return Reply::Refused(refusal);
+        }
+        self.send_off(node, segment, writing)
+    }
+
+    // A node that serves does it.
+    fn send_off(&mut self, node: u16, segment: u32, writing: bool) -> Reply
         requires known { is_known self.old.geometry (Leave node segment) ≡ true }
         ensures follows { FollowsLeaving D.Area node segment writing self.old result self.new }
         ensures names { done_or may_refuse_leave result ≡ true }
@@ -38,8 +55,19 @@ impl<D: Area + Drop> Running<D> {
         }
     }
 
-    /// The token of a segment that is on its way arrives at a node; where it is refused it stays on its way.
-    pub(crate) fn arrive(&mut self, node: u16, segment: u32) -> Reply
+    /// The token of a segment that is on its way arrives at a node; where it is refused it stays on its way. It takes no
+    /// memory.
+    pub fn arrive(&mut self, node: u16, segment: u32) -> Reply
+        ensures { StepsRunning D.Area self.old (Arrive node segment) result self.new }
+    {
+        if let Some(refusal) = self.refusal(node, knows_token(&self.geometry, node, segment)) {
+            return Reply::Refused(refusal);
+        }
+        self.take_in(node, segment)
+    }
+
+    // A node that serves does it.
+    fn take_in(&mut self, node: u16, segment: u32) -> Reply
         requires known { is_known self.old.geometry (Arrive node segment) ≡ true }
         ensures follows { FollowsRow D.Area self.old (Arrive node segment) result self.new }
         ensures names { done_or may_refuse_arrive result ≡ true }
@@ -61,7 +89,25 @@ impl<D: Area + Drop> Running<D> {
     /// A record that a node has published comes to a node, which applies its part of a segment once it has applied all
     /// before it; the record is named by its number, from 1. It takes memory only for a part that the node does not
     /// know, and not where that is the next and none is held back: it is put on the image from where the record stands.
-    pub(crate) fn deliver(
+    pub fn deliver(
+        &mut self,
+        alloc: Global,
+        sender: u16,
+        number: u64,
+        segment: u32,
+        to: u16,
+    ) -> Result<Reply, AllocError>
+        ensures { TriesRunning D.Area self.old (Deliver sender number segment to) result self.new }
+    {
+        let known = knows_delivery(&self.geometry, sender, segment, to);
+        if let Some(refusal) = self.refusal(to, known) {
+            return Ok(Reply::Refused(refusal));
+        }
+        self.bring(alloc, sender, number, segment, to)
+    }
+
+    // A node that serves takes it.
+    fn bring(
         &mut self,
         alloc: Global,
         sender: u16,

@@ -1,18 +1,13 @@
 //! The calls of a transaction, at a node and at all nodes.
-ghost use Rattle.std.specs.Prelude.{◌≡◌, ◌<◌, ℕ, Ok, None, true, vec_len, IfErr, IfOk, length, ◌≤◌};
-ghost use Rattle.std.specs.Option.{ForSome};
-ghost use Rattle.lc_model.specs.Refusals.{is_known, named};
+ghost use Rattle.std.specs.Prelude.{◌≡◌, ◌<◌, ◌≤◌, ℕ, Ok, vec_len, IfErr, IfOk, length};
 ghost use Rattle.lc_model.specs.declared.event.Event.TheVariants.{Begin, SetRange, Write, Read, Abort, Close, Reserve};
 ghost use Rattle.lc_model.specs.declared.reply.Reply.TheVariants.{Refused, Bytes};
-ghost use Rattle.lc_events.specs.Geometries.{RefusesUnknown};
 ghost use Rattle.lc_events.specs.Layers.{StepsRunning, TriesRunning};
-ghost use Rattle.lc_events.specs.MayReply.{is_common};
 ghost use Rattle.lc_events.specs.NodeSteps.{StepsNode};
-ghost use Rattle.lc_events.specs.Refuses.{ActsRunning, Refuses};
 ghost use Rattle.lc_events.specs.EndCalls.{ClosesAt, EndsNode, EndsRunning};
 
 use crate::call_fault::CallFault;
-use crate::named::knows_begin;
+use crate::named::{is_seat, knows_begin, knows_place};
 use crate::node_state::NodeState;
 use crate::placement::Placement;
 use crate::reply_values::{done, placement};
@@ -58,6 +53,21 @@ impl<D: Area + Drop> NodeState<D> {
         self.desk.write(thread, segment, offset, bytes)
     }
 
+    /// One of its threads reads. It takes memory for the bytes.
+    pub fn read(
+        &mut self,
+        alloc: Global,
+        thread: u16,
+        segment: u32,
+        offset: u32,
+        len: u32,
+    ) -> Result<Reply, AllocError>
+        requires seat { thread < vec_len self.old.desk.seats }
+        ensures { (node : ℕ) → StepsNode D.Area node (Read node thread segment offset len) self.old result self.new }
+    {
+        self.desk.read(alloc, thread, segment, offset, len)
+    }
+
     /// One of its threads drops its transaction. It takes no memory.
     pub fn abort(&mut self, thread: u16) -> Reply
         requires seat { thread < vec_len self.old.desk.seats }
@@ -101,37 +111,11 @@ impl<D: Area + Drop> Running<D> {
     pub fn begin(&mut self, node: u16, thread: u16, segments: &[u32], reading: &[u32]) -> Reply
         ensures { StepsRunning D.Area self.old (Begin node thread segments.now reading.now) result self.new }
     {
-        if let Some(refusal) = self.begin_refusal(node, thread, segments, reading) {
+        let known = knows_begin(&self.geometry, node, thread, segments, reading);
+        if let Some(refusal) = self.refusal(node, known) {
             return Reply::Refused(refusal);
         }
         self.nodes[node as usize].begin(thread, segments, reading)
-    }
-
-    // Why it is refused at once: what it names is unknown, or its node is halted.
-    fn begin_refusal(
-        &self,
-        node: u16,
-        thread: u16,
-        segments: &[u32],
-        reading: &[u32],
-    ) -> Option<Refusal>
-        ensures refused { Refuses D.Area self.now (Begin node thread segments.now reading.now) result }
-        ensures names { ForSome result (λ refusal. is_common refusal ≡ true) }
-        ensures unknown { ForSome result (λ refusal.
-            RefusesUnknown self.now.geometry (Begin node thread segments.now reading.now) (Refused refusal)) }
-        ensures known { result ≡ None → is_known self.now.geometry (Begin node thread segments.now reading.now) ≡ true }
-        ensures running { result ≡ None → ActsRunning D.Area
-            (named (Begin node thread segments.now reading.now)) self.now.nodes.items }
-    {
-        if !knows_begin(&self.geometry, node, thread, segments, reading) {
-            return Some(Refusal::Unknown);
-        }
-        let log = &self.nodes[node as usize].journal.log;
-        if log.is_failed() {
-            Some(Refusal::Halted)
-        } else {
-            None
-        }
     }
 
     /// A thread of a node sets a range. It takes memory only for positions that are not set yet.
@@ -145,7 +129,8 @@ impl<D: Area + Drop> Running<D> {
     ) -> Result<Reply, AllocError>
         ensures { TriesRunning D.Area self.old (SetRange node thread segment offset len) result self.new }
     {
-        if let Some(refusal) = self.place_refusal(node, thread, segment) {
+        let known = knows_place(&self.geometry, node, thread, segment);
+        if let Some(refusal) = self.refusal(node, known) {
             return Ok(Reply::Refused(refusal));
         }
         self.nodes[node as usize].set_range(thread, segment, offset, len)
@@ -162,7 +147,8 @@ impl<D: Area + Drop> Running<D> {
     ) -> Reply
         ensures { StepsRunning D.Area self.old (Write node thread segment offset bytes.now) result self.new }
     {
-        if let Some(refusal) = self.place_refusal(node, thread, segment) {
+        let known = knows_place(&self.geometry, node, thread, segment);
+        if let Some(refusal) = self.refusal(node, known) {
             return Reply::Refused(refusal);
         }
         self.nodes[node as usize].write(thread, segment, offset, bytes)
@@ -183,7 +169,8 @@ impl<D: Area + Drop> Running<D> {
             StepsRunning D.Area self.now (Read node thread segment offset len) (Refused refusal) self.now) }
         ensures len { IfOk result (λ bytes. length bytes.now ≡ len) }
     {
-        if let Some(refusal) = self.place_refusal(node, thread, segment) {
+        let known = knows_place(&self.geometry, node, thread, segment);
+        if let Some(refusal) = self.refusal(node, known) {
             return Err(refusal);
         }
         self.nodes[node as usize]
@@ -191,11 +178,30 @@ impl<D: Area + Drop> Running<D> {
             .bytes(thread, segment, offset, len)
     }
 
+    /// A thread of a node reads bytes. It takes memory for them where it is not refused; no bytes take none.
+    pub fn read(
+        &mut self,
+        alloc: Global,
+        node: u16,
+        thread: u16,
+        segment: u32,
+        offset: u32,
+        len: u32,
+    ) -> Result<Reply, AllocError>
+        ensures { TriesRunning D.Area self.old (Read node thread segment offset len) result self.new }
+    {
+        let known = knows_place(&self.geometry, node, thread, segment);
+        if let Some(refusal) = self.refusal(node, known) {
+            return Ok(Reply::Refused(refusal));
+        }
+        self.nodes[node as usize].read(alloc, thread, segment, offset, len)
+    }
+
     /// A thread of a node drops its transaction. It takes no memory.
     pub fn abort(&mut self, node: u16, thread: u16) -> Reply
         ensures { StepsRunning D.Area self.old (Abort node thread) result self.new }
     {
-        if let Some(refusal) = self.seat_refusal(node, thread) {
+        if let Some(refusal) = self.refusal(node, is_seat(&self.geometry, node, thread)) {
             return Reply::Refused(refusal);
         }
         self.nodes[node as usize].abort(thread)
@@ -206,7 +212,7 @@ impl<D: Area + Drop> Running<D> {
     pub fn reserve(&mut self, alloc: Global, node: u16, thread: u16) -> Result<Reply, AllocError>
         ensures { TriesRunning D.Area self.old (Reserve node thread) result self.new }
     {
-        if let Some(refusal) = self.seat_refusal(node, thread) {
+        if let Some(refusal) = self.refusal(node, is_seat(&self.geometry, node, thread)) {
             return Ok(Reply::Refused(refusal));
         }
         self.nodes[node as usize].reserve(alloc, node, thread)
@@ -216,7 +222,7 @@ impl<D: Area + Drop> Running<D> {
     pub fn close(&mut self, node: u16, thread: u16) -> Reply
         ensures { StepsRunning D.Area self.old (Close node thread) result self.new }
     {
-        if let Some(refusal) = self.seat_refusal(node, thread) {
+        if let Some(refusal) = self.refusal(node, is_seat(&self.geometry, node, thread)) {
             return Reply::Refused(refusal);
         }
         self.nodes[node as usize].close(thread)
@@ -227,7 +233,7 @@ impl<D: Area + Drop> Running<D> {
     pub fn end(&mut self, alloc: Global, node: u16, thread: u16) -> Result<Placement, CallFault>
         ensures { EndsRunning D.Area node thread self.old result self.new }
     {
-        if let Some(refusal) = self.seat_refusal(node, thread) {
+        if let Some(refusal) = self.refusal(node, is_seat(&self.geometry, node, thread)) {
             return Err(CallFault::Refused(refusal));
         }
         self.nodes[node as usize].end(alloc, node, thread)

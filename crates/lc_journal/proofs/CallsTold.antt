@@ -1,4 +1,4 @@
--- Which replies tell of a call, event by event.
+-- Of a journal: which replies tell of a call, event by event.
 use Rattle.std.proofs.Common.{◌≡◌, ℕ, true, false, refl, sym, true≢false}
 use Rattle.lc_disk.specs.declared.area.Area.{Ghosts}
 use Rattle.lc_log.specs.declared.closing.Closing.{Closing as ClosingLog}

@@ -4,6 +4,7 @@ use Rattle.std.specs.Prelude.{◌^◌, find, is_some, option_map, nat_le, slice_
 use Rattle.std.specs.List.{list_all, list_any}
 use Rattle.std.specs.Option.{ForSome}
 use Rattle.std.proofs.lemmas.Bool.{ltb-true, and_parts as and-both}
+use Rattle.std.proofs.lemmas.Option.{same_Some as same_some}
 use Rattle.lc_record.specs.Marks.{is_empty}
 use Rattle.lc_record.specs.Record.{record_len}
 use Rattle.lc_record.specs.Transaction.{Transaction}
@@ -31,7 +32,6 @@ use Rattle.lc_trunc.specs.Clean.{TokenFits, closed_of}
 use Rattle.lc_trunc.proofs.CleanLemmas.{token-appended}
 use Rattle.lc_journal.specs.Coherent.{AreCoherent, entries_of}
 use Rattle.lc_settled.specs.Numbers.{Numbers, log_end, next_record, token_number}
-use Rattle.lc_settled.specs.Places.{same_some}
 use Rattle.lc_settled.specs.Settled.{IsAnswer, Settled, first_spent, number_of, open_answer, page_answer, record_refusal, refusal_or, reserve_answer, reserve_open, reset_call}
 use Rattle.lc_settled.specs.Turns.{Turns, closed_with, held_back, numbers_after}
 use Rattle.lc_journal.proofs.ClosedPages.{coherent_closed, found_unclosed}

@@ -1,4 +1,5 @@
--- A record that is closed: what it makes of the tokens' numbers, of the node's slots, and of those of the others.
+-- Of a journal: a record that is closed: what it makes of the tokens' numbers, of the node's slots, and of those of
+-- the others.
 use Rattle.std.proofs.Common.{◌≡◌, ℕ, zero, suc, ◌+◌, ◌-◌, ◌*◌, ◌<◌, ◌≤◌, Bool, true, false, List, [], ◌∷◌, take, drop, length, filter, find, Some, All, AllPairs, get_or, refl, sym, ap, subst, ◌∙◌, arith, true≢false}
 use Rattle.std.specs.Prelude.{if◌then◌else◌}
 use Rattle.std.proofs.lemmas.Bool.{false_from_ne_true}

@@ -1,4 +1,4 @@
--- Which replies tell of a failure, and what the calls of a device count.
+-- Of a journal: which replies tell of a failure, and what the calls of a device count.
 use Rattle.std.proofs.Common.{◌≡◌, ℕ, ◌+◌, Bool, true, false, length, Option, Some, refl, sym, ap, subst, ◌∙◌, true≢false}
 use Rattle.std.specs.Prelude.{not, option_map, if◌then◌else◌}
 use Rattle.lc_disk.specs.declared.area.Area.{Ghosts}

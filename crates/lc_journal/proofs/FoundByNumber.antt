@@ -2,6 +2,7 @@
 use Rattle.std.proofs.Common.{◌≡◌, ℕ, zero, suc, ◌+◌, ◌-◌, ◌<◌, ◌≤◌, List, [], ◌∷◌, map, length, take, drop, Some, slice_get, refl, sym, ap, subst, ◌∙◌, inl, inr, arith}
 use Rattle.std.specs.List.{AllByRecursion}
 use Rattle.std.proofs.lemmas.List.{append-nil, take-append-drop}
+use Rattle.std.proofs.lemmas.Option.{same_Some as same_some}
 use Rattle.lc_record.specs.Codec.{BeginsWith, BeginsNoRecord}
 use Rattle.lc_record.specs.Record.{IsRecord, record_len, spelling}
 use Rattle.lc_record.specs.declared.record.Record.{Record}
@@ -13,7 +14,6 @@ use Rattle.lc_model.specs.State.{Setting, State}
 use Rattle.lc_model.specs.Stored.{records_of}
 use Rattle.lc_journal.specs.Journal.{FitsLog}
 use Rattle.lc_settled.specs.Numbers.{Numbers}
-use Rattle.lc_settled.specs.Places.{same_some}
 use Rattle.lc_journal.specs.Published.{IsFound}
 use Rattle.lc_journal.specs.Records.{Spelled, KeptRecords, count_of}
 use Rattle.lc_journal.specs.declared.log.Log.{Log}

@@ -1,4 +1,4 @@
--- A record more, and a record that is closed, among those that a journal keeps.
+-- Of a journal: a record more, and a record that is closed, among those that a journal keeps.
 use Rattle.std.proofs.Common.{◌≡◌, ◌⊎◌, ℕ, zero, suc, ◌+◌, ◌-◌, ◌≤◌, Bool, true, false, List, [], ◌∷◌, ◌++◌, map, length, take, drop, Some, slice_get, slice_set, refl, sym, ap, subst, ◌∙◌, arith, inl, inr, le_trans, eq-eqb}
 use Rattle.std.specs.Prelude.{Result, Ok, Err, IfOk, OnErr, filter, find, nat_lt, if◌then◌else◌}
 use Rattle.std.specs.List.{AllByRecursion}

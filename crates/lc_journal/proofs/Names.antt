@@ -1,4 +1,4 @@
--- Which replies an event may get at all, kind by kind.
+-- Of a journal: which replies an event may get at all, kind by kind.
 use Rattle.std.proofs.Common.{◌≡◌, ℕ, Bool, true, false, refl, sym, true≢false}
 use Rattle.lc_disk.specs.declared.area.Area.{Ghosts}
 use Rattle.lc_log.specs.declared.idle.Idle.{Idle as IdleLog}

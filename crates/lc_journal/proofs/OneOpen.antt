@@ -2,6 +2,7 @@
 use Rattle.std.proofs.Common.{◌≡◌, ℕ, zero, suc, ◌≤◌, Bool, true, false, List, [], ◌∷◌, ◌++◌, map, filter, length, All, Some, refl, sym, ap, subst, ◌∙◌, arith}
 use Rattle.std.specs.Prelude.{AllPairs, slice_get, slice_set, if◌then◌else◌}
 use Rattle.std.proofs.lemmas.List.Elements.{All-head, All-tail}
+use Rattle.std.proofs.lemmas.Option.{same_Some as same_some}
 use Rattle.lc_record.specs.Transaction.{Transaction}
 use Rattle.lc_record.specs.declared.geometry.Geometry.{Geometry}
 use Rattle.lc_model.specs.History.{Entry, History, entries_of, is_of}
@@ -11,7 +12,6 @@ use Rattle.lc_model.proofs.Fronts.{entry}
 use Rattle.lc_model.proofs.Holders.{is_by-both}
 use Rattle.lc_model.proofs.Law.{AllPairs-head, AllPairs-tail}
 use Rattle.lc_model.proofs.Seats.{is_by-other}
-use Rattle.lc_settled.specs.Places.{same_some}
 use Rattle.lc_settled.proofs.Closes.{shut}
 
 pairs_right : {A : Type 0} (R : A → A → Type 0) (xs ys : List A) → AllPairs R (xs ++ ys) → AllPairs R ys

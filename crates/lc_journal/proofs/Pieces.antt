@@ -1,4 +1,4 @@
--- What stands in a store that is made of pieces.
+-- Of a journal: what stands in a store that is made of pieces.
 use Rattle.std.proofs.Common.{◌≡◌, ℕ, zero, suc, ◌+◌, ◌-◌, ◌++◌, true, false, List, [], ◌∷◌, length, refl, ap, ◌∙◌, arith}
 use Rattle.lc_journal.specs.Records.{KeptRecords, Spelled, closed_at, closing, count_of}
 use Rattle.lc_journal.proofs.Spans.{closed_in}

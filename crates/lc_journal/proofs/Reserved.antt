@@ -1,4 +1,4 @@
--- A node's desk and journal together, at a reservation.
+-- Of a journal: a node's desk and journal together, at a reservation.
 use Rattle.std.proofs.Common.{◌≡◌, false, map, filter, ap, ◌∙◌}
 use Rattle.std.proofs.lemmas.List.{append-nil}
 use Rattle.lc_record.specs.Transaction.{Transaction}

@@ -4,6 +4,7 @@ use Rattle.std.proofs.Common.{lt-ltb}
 use Rattle.std.proofs.lemmas.Bool.{le-ltb}
 use Rattle.std.proofs.lemmas.List.{length-drop, length-take-le}
 use Rattle.std.specs.Prelude.{◌==◌, nat_lt, is_some, IsTrue, if◌then◌else◌}
+use Rattle.std.proofs.lemmas.Option.{same_Some as same_some}
 use Rattle.lc_disk.specs.declared.area.Area.{Ghosts}
 use Rattle.lc_record.specs.declared.record.Record.{Record}
 use Rattle.lc_record.proofs.ListLemmas.{drop-take_same as nothing_behind}
@@ -23,7 +24,6 @@ use Rattle.lc_journal.specs.Follows.{FitsJournal}
 use Rattle.lc_journal.specs.Journal.{FitsLog, reply_of}
 use Rattle.lc_journal.specs.Log.{ComesToReset, HasReset, MovesReset, ResetsTo, Stands, Unseals, is_emptied, is_failed, is_sealed}
 use Rattle.lc_settled.specs.Numbers.{Numbers, stable_records}
-use Rattle.lc_settled.specs.Places.{same_some}
 use Rattle.lc_journal.specs.Records.{KeptRecords, count_of}
 use Rattle.lc_journal.specs.Resets.{GoesOnReset}
 use Rattle.lc_settled.specs.Settled.{IsAnswer, Settled, is_unflushed, last_round, least_unclean, locks_in, reset_begins, reset_call}

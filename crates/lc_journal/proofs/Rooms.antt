@@ -1,7 +1,7 @@
 -- What a step of a flush leaves of a log's room and of its ends.
 use Rattle.std.proofs.Common.{◌≡◌, ℕ, ◌+◌, ◌*◌, ◌≤◌, true, false, length, Some, refl, sym, ap, subst, ◌∙◌, arith}
+use Rattle.std.proofs.lemmas.Option.{same_Some as same_some}
 use Rattle.lc_disk.specs.declared.area.Area.{Ghosts}
-use Rattle.lc_settled.specs.Places.{same_some}
 use Rattle.lc_journal.specs.declared.log.Log.{Log}
 use Rattle.lc_journal.specs.declared.log.Log.TheVariants.{Idle, Written, Synced, Opened, Sealed, Closing, Emptied, Failed, Torn, Taken}
 use Rattle.lc_journal.specs.Log.{HasRoom, MovesOn, CallsOnce, IsCalled, is_idle, is_failed, is_sealed, area_of, end_of, under_way, size, steps_of, taken_by}

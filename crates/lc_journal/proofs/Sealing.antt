@@ -1,6 +1,7 @@
--- A reset of a node's log.
+-- Of a journal: a reset of a node's log.
 use Rattle.std.proofs.Common.{◌≡◌, ℕ, ◌≤◌, zero, suc, true, false, List, [], ◌∷◌, ◌++◌, length, take, drop, Option, Some, None, slice_get, refl, sym, ap, subst, ◌∙◌}
 use Rattle.std.specs.Prelude.{nat_lt, if◌then◌else◌}
+use Rattle.std.proofs.lemmas.Option.{same_Some as same_some}
 use Rattle.lc_record.specs.declared.record.Lock.{Lock}
 use Rattle.lc_record.specs.declared.record.Record.{Record}
 use Rattle.lc_trunc.specs.Reset.{above, lesser}
@@ -9,7 +10,6 @@ use Rattle.lc_model.specs.Sound.{Sound}
 use Rattle.lc_model.specs.State.{Setting, State}
 use Rattle.lc_model.specs.Stored.{records_of}
 use Rattle.lc_settled.specs.Numbers.{Numbers, stable_records}
-use Rattle.lc_settled.specs.Places.{same_some}
 use Rattle.lc_model.specs.Machine.{halting}
 use Rattle.lc_model.proofs.Seats.{update-own}
 use Rattle.lc_journal.specs.Journal.{FitsLog}

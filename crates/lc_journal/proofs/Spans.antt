@@ -6,8 +6,8 @@ use Rattle.std.proofs.lemmas.Bool.{lt-ltb, le-ltb}
 use Rattle.std.proofs.lemmas.List.{length-append, take_at, drop_at, take-append-drop, append-nil, length-map, drop-map, map-append, map-set, length-drop, drop-drop, drop-append-le}
 use Rattle.std.proofs.lemmas.List.Concat.{flat_map-append}
 use Rattle.std.proofs.lemmas.List.Sums.{sum_by-cons}
+use Rattle.std.proofs.lemmas.Option.{same_Some as same_some}
 use Rattle.lc_model.specs.History.{leading}
-use Rattle.lc_settled.specs.Places.{same_some}
 use Rattle.lc_journal.specs.declared.record_end.RecordEnd.{RecordEnd}
 use Rattle.lc_journal.specs.Records.{Spelled, KeptRecords, all_words, marks_of, count_of, front_of, span_of, closing, closed_at, spelled, places_of, shifted, AreKept}
 

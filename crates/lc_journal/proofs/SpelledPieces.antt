@@ -1,4 +1,4 @@
--- A node's piece of records whose words are all there is.
+-- Of a journal: a node's piece of records whose words are all there is.
 use Rattle.std.proofs.Common.{◌≡◌, ℕ, ◌+◌, ◌-◌, ◌*◌, ◌<◌, ◌≤◌, ◌^◌, List, [], ◌∷◌, ◌++◌, map, take, drop, length, refl, sym, ap, ◌∙◌, arith}
 use Rattle.std.proofs.lemmas.List.{length-append, length-map, map-append, take_at}
 use Rattle.lc_disk.specs.declared.area.Area.{Ghosts}

@@ -1,4 +1,4 @@
--- The published records that every node has applied are counted, and trimmed.
+-- Of a journal: the published records that every node has applied are counted, and trimmed.
 use Rattle.std.proofs.Common.{◌≡◌, ℕ, suc, ◌+◌, ◌-◌, ◌≤◌, true, false, List, [], ◌∷◌, length, All, Some, slice_get, sym, ap, ◌∙◌, arith}
 use Rattle.std.specs.Prelude.{if◌then◌else◌}
 use Rattle.std.proofs.lemmas.List.{length-map, length-replicate}

@@ -1,4 +1,4 @@
--- What the other nodes need to know of a step of one node.
+-- Of a journal: what the other nodes need to know of a step of one node.
 use Rattle.std.specs.Prelude.{◌≡◌, ℕ, map}
 use Rattle.lc_model.specs.History.{entries_of}
 use Rattle.lc_model.specs.State.{Setting, State}

@@ -1,4 +1,4 @@
--- Which events and replies tell of a call of an area, and of which area.
+-- Of a journal: which events and replies tell of a call of an area, and of which area.
 use Rattle.std.specs.Prelude.{ℕ, Bool, true, false, ◌==◌, not}
 use Rattle.lc_model.specs.declared.reply.Reply.{Reply}
 use Rattle.lc_model.specs.declared.reply.Reply.TheVariants.{Stepped, Acked, Written, Recovered, Refused}

@@ -1,4 +1,5 @@
--- Which replies tell that a device has failed, how often devices have failed then, and which replies tell of something unknown.
+-- Of a journal: which replies tell that a device has failed, how often devices have failed then, and which replies
+-- tell of something unknown.
 use Rattle.std.specs.Prelude.{◌≡◌, ℕ, ◌+◌, Bool, true, false, length, Option, Some, option_map, if◌then◌else◌}
 use Rattle.lc_disk.specs.declared.area.Area.{Ghosts}
 use Rattle.lc_log.specs.OneCall.{IsOneCall}

@@ -1,4 +1,4 @@
--- What it is that the log of a node follows the machine.
+-- Of a journal: what it is that the log of a node follows the machine.
 use Rattle.std.specs.Prelude.{ℕ}
 use Rattle.lc_disk.specs.declared.area.Area.{Ghosts}
 use Rattle.lc_model.specs.State.{Setting, State}

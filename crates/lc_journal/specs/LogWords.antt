@@ -1,4 +1,4 @@
--- What is shown of the log of a node, and what stays as it was.
+-- Of a journal: what is shown of the log of a node, and what stays as it was.
 use Rattle.std.specs.Prelude.{◌≡◌, ℕ, ◌+◌, Bool, true, false, List, length, Some, Result, Ok, Err, if◌then◌else◌}
 use Rattle.lc_disk.specs.declared.area.Area.{Ghosts}
 use Rattle.lc_record.specs.declared.record.Record.{Record}

@@ -1,4 +1,4 @@
--- Which replies an event may get at all, whatever the store holds and whatever its areas are.
+-- Of a journal: which replies an event may get at all, whatever the store holds and whatever its areas are.
 use Rattle.std.specs.Prelude.{Bool, true, false, ◌&&◌, nat_le}
 use Rattle.lc_model.specs.declared.refusal.Refusal.TheVariants.{DeviceFault}
 use Rattle.lc_model.specs.declared.reply.Reply.{Reply}

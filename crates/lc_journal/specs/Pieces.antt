@@ -1,4 +1,4 @@
--- The pieces that a store is made of, and how they stand in it.
+-- Of a journal: the pieces that a store is made of, and how they stand in it.
 use Rattle.std.specs.Prelude.{◌≡◌, ℕ, ◌+◌, ◌*◌, ◌<◌, ◌≤◌, ◌^◌, length}
 use Rattle.lc_disk.specs.declared.area.Area.{Ghosts}
 use Rattle.lc_journal.specs.Records.{all_words, front_of, span_of}

@@ -1,4 +1,4 @@
--- What it is that records are counted which every node has applied.
+-- Of a journal: what it is that records are counted which every node has applied.
 use Rattle.std.specs.Prelude.{◌≡◌, ℕ, ◌≤◌, List, Some, slice_get}
 use Rattle.lc_record.specs.declared.record.Lock.{Lock}
 use Rattle.lc_model.specs.State.{Setting}

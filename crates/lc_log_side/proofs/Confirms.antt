@@ -1,4 +1,4 @@
--- The record of a receipt stands in the stable words.
+-- Of a log under its lock: the record of a receipt stands in the stable words.
 use Rattle.std.proofs.Common.{◌≡◌, ℕ, ◌+◌, ◌*◌, ◌≤◌, ◌<◌, List, [], ◌++◌, length, get_or, sym, ap, subst, ◌∙◌, arith}
 use Rattle.std.proofs.Math.ListN.{take}
 use lib.ListN.{get_elem?, get_or-append}

@@ -1,4 +1,4 @@
--- What is known stays known.
+-- Of a log under its lock: what is known stays known.
 use Rattle.std.proofs.Common.{◌≡◌, ℕ, zero, suc, ◌<◌, ◌≤◌, ◌==◌, max, List, [], ◌∷◌, All, get_or, inl, inr, arith}
 use Rattle.std.proofs.lemmas.Bool.{cases_Bool}
 use Rattle.lc_token.specs.declared.token.Token.{Token}

@@ -1,4 +1,4 @@
--- What the pages of held segments are after their writes.
+-- Of a log under its lock: what the pages of held segments are after their writes.
 use Rattle.std.proofs.Common.{◌≡◌, ℕ, zero, suc, ◌+◌, ◌<◌, ◌≤◌, List, [], ◌∷◌, Some, None, length, take, refl, set, get_or, sym, ap, subst, ◌∙◌, arith}
 use Rattle.std.specs.Prelude.{Option, slice_get}
 use Rattle.std.proofs.lemmas.List.{length-set as length_set}

@@ -1,4 +1,4 @@
--- The records whose words a list of words is.
+-- Of a log under its lock: the records whose words a list of words is.
 use Rattle.std.proofs.Common.{◌≡◌, ℕ, zero, suc, ◌+◌, ◌*◌, ◌-◌, ◌/◌, ◌^◌, ◌≤◌, ◌<◌, List, [], ◌∷◌, ◌++◌, length, All, Some, None, refl, sym, ap, subst, ◌∙◌, inl, inr, arith, append_assoc, length-append}
 use Rattle.std.specs.Prelude.{◌⊎◌, Option, IfSome, option_map, slice_get}
 use Rattle.std.specs.List.{concat}
@@ -13,8 +13,7 @@ use Rattle.lc_stage.proofs.Records.{some_record, header_tells}
 use Rattle.lc_record.proofs.ListLemmas.{All-append_right as all_behind}
 use Rattle.lc_log_side.specs.Among.{AreInFront}
 use Rattle.lc_log_side.specs.LogView.{LogView}
-use Rattle.lc_log_side.specs.Published.{records_behind, records_of, published, IsWhole}
-use Rattle.lc_segments.specs.Published.{IsStart}
+use Rattle.lc_log_side.specs.Published.{records_behind, records_of, published, IsWhole, IsStart}
 use Rattle.lc_log.specs.LogText.{joined, IsWhole as IsRecordWhole}
 use Rattle.lc_record.specs.Record.{spelling}
 use Rattle.lc_record.specs.declared.record.Record.{Record}

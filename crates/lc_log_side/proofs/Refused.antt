@@ -1,4 +1,4 @@
--- Where what a cluster leaves is refused.
+-- Of a log under its lock: where what a cluster leaves is refused.
 use Rattle.std.proofs.Common.{◌≡◌, ◌+◌, ◌*◌, ◌≤◌, ◌++◌, ◌∷◌, [], ℕ, List, All, length, sym, ap, subst, ◌∙◌, arith, length-append}
 use Rattle.std.specs.Prelude.{IfErr, IsErrAnd, Result}
 use Rattle.std.proofs.lemmas.Result.{err_from_is_err_and}

@@ -1,4 +1,4 @@
--- What a flush does.
+-- Of a log under its lock: what a flush does.
 use Rattle.std.specs.Prelude.{◌≡◌, ◌⊎◌, ℕ, ◌+◌, true, false, List, [], ◌∷◌, ◌++◌, length}
 use Rattle.lc_disk.specs.declared.area.Area.{Ghosts}
 use Rattle.lc_stage.specs.declared.stage_view.StageView.{StageView}

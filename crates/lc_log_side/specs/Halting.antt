@@ -1,4 +1,4 @@
--- What keeps a node from serving on.
+-- Of a log under its lock: what keeps a node from serving on.
 use Rattle.std.specs.Prelude.{◌≡◌, ◌⊎◌, true, false}
 use Rattle.lc_log_side.specs.LogView.{LogView}
 use Rattle.lc_log_side.specs.Resets.{IsSpent}

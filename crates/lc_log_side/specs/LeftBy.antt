@@ -1,4 +1,4 @@
--- What a cluster leaves once its threads have ended.
+-- Of a log under its lock: what a cluster leaves once its threads have ended.
 use Rattle.std.specs.Prelude.{◌≡◌, ◌≢◌, ◌<◌, ◌≤◌, ℕ, ◌++◌, List, [], ◌∷◌, false, All}
 use Rattle.lc_disk.specs.declared.area.Area.{Ghosts}
 use Rattle.lc_stage.specs.Seats.{commit_view, flush_view, IsIdle, IsSeatOf, OnlyTakes, EndsAt}

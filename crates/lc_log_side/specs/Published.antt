@@ -5,6 +5,11 @@ use Rattle.lc_stage.specs.Staging.{IsOneRecord}
 use Rattle.lc_stage.specs.Seats.{flush_view}
 use Rattle.lc_log_side.specs.LogView.{LogView}
 
+-- so many records stand in front of the place, and they take so many words
+abbrev pub IsStart : List (List ℕ) → ℕ → ℕ → Type 0
+IsStart records count place =
+    (front : List (List ℕ)) × (behind : List (List ℕ)) × (records ≡ front ++ behind) × (length front ≡ count) × (length (concat front) ≡ place)
+
 -- the records that begin among these words, of which so many in front belong to one that began before. The first word of a record
 -- tells how many words it has
 abbrev pub records_behind : List ℕ → ℕ → List (List ℕ)

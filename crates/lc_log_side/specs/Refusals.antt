@@ -1,4 +1,4 @@
--- Where what a cluster leaves is refused, and by which fault.
+-- Of a log under its lock: where what a cluster leaves is refused, and by which fault.
 use Rattle.std.specs.Prelude.{◌≡◌, ◌⊎◌, ◌<◌, ◌≤◌, ◌+◌, ◌*◌, ℕ, true, false, List, All, length}
 use Rattle.lc_disk.specs.declared.area.Area.{Ghosts}
 use Rattle.lc_record.specs.declared.geometry.Geometry.{Geometry}

@@ -1,4 +1,4 @@
--- What the reset of a log does.
+-- Of a log under its lock: what the reset of a log does.
 use Rattle.std.specs.Prelude.{◌≡◌, ◌≢◌, ◌⊎◌, ℕ, ◌+◌, ◌-◌, ◌*◌, ◌^◌, true, false, [], ◌∷◌, ◌++◌, length}
 use Rattle.lc_model.specs.Merge.{IsLeastPair}
 use Rattle.lc_stage.specs.Seats.{commit_view, flush_view}

@@ -1,4 +1,4 @@
--- How a committer's receipt is looked for in a node's log.
+-- Of a log under its lock: how a committer's receipt is looked for in a node's log.
 use Rattle.std.specs.Prelude.{◌≡◌, ◌⊎◌, ℕ, true, Option, None, Some, Result, Ok, Err, IsSome}
 use Rattle.lc_disk.specs.declared.area.Area.{Ghosts}
 use Rattle.lc_stage.specs.Receipts.{IsReceiptOf}

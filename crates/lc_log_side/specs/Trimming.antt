@@ -1,4 +1,4 @@
--- What a log forgets of the rounds that have ended.
+-- Of a log under its lock: what a log forgets of the rounds that have ended.
 use Rattle.std.specs.Prelude.{◌≡◌, ℕ, ◌+◌, ◌≤◌, List, [], length, All}
 use Rattle.lc_ended.specs.Trims.{Trims}
 use Rattle.lc_log.specs.LogText.{IsWhole, joined}

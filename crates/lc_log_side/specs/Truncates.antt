@@ -1,4 +1,4 @@
--- What a truncation does to the segments that it holds, and to the log.
+-- Of a log under its lock: what a truncation does to the segments that it holds, and to the log.
 use Rattle.std.specs.Prelude.{◌≡◌, ◌⊎◌, ℕ, ◌*◌, ◌<◌, ◌≤◌, true, false, List, [], ◌∷◌, length, Option, Some, None, slice_get}
 use Rattle.lc_disk.specs.declared.area.Area.{Ghosts}
 use Rattle.lc_token.specs.declared.token.Token.{Token}

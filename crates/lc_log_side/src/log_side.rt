@@ -1,9 +1,15 @@
 //! A node's log, with what is staged for it.
+ghost use Rattle.lc_stage.specs.Seats.{IsSeatOf, IsFlusherOf};
+ghost use Rattle.std.specs.Prelude.{◌≡◌, length, ◌≤◌};
+ghost use Rattle.lc_trunc.specs.KnownClean.{Sees};
+
 use crate::log_state::LogState;
 use lc_disk::Area;
 use lc_ended::Ended;
+use lc_lock::Keyed;
 use lc_record::Group;
-use lc_stage::{CommitSeat, FlushSeat};
+use lc_stage::{CommitSeat, FlushSeat, Stage};
+use lc_token::Token;
 use lc_trunc::KnownClean;
 use std::marker::Model;
 
@@ -35,4 +41,29 @@ impl<D: Area> Model for LogSide<D> {
     ghost view = { log_view D.Area };
 
     ghost invariant = { IsLogSide D.Area };
+}
+
+impl<D: Area + Drop> Keyed<Stage> for LogSide<D> {
+    ghost fits = { λ stage log. IsFlusherOf stage log.flusher × IsSeatOf stage log.probe };
+}
+
+impl<D: Area + Drop> LogSide<D> {
+    /// How many words its stable records take.
+    pub fn stable_words(&self) -> usize
+        ensures { result ≡ length self.now.stable }
+    {
+        self.stable.len()
+    }
+}
+
+impl<D: Area + Drop> LogSide<D> {
+    /// Takes in what a token calls clean. Its segment is from 1 to 16. It takes no memory.
+    pub(crate) fn see(&mut self, token: &Token)
+        requires first { 1 ≤ token.now.segment }
+        requires last { token.now.segment ≤ 16 }
+        ensures sees { Sees self.old.known token.now self.new.known }
+        ensures same { self.new ≡ record self.old { known = self.new.known } }
+    {
+        self.known.see(token);
+    }
 }

@@ -3,8 +3,7 @@ ghost use Rattle.std.specs.Prelude.{◌≡◌, ◌+◌, ◌^◌, ◌<◌, ◌≤
 ghost use Rattle.std.specs.Prelude.{IfSome};
 ghost use Rattle.lc_stage.specs.Staging.{AreRecords, IsOneRecord};
 ghost use Rattle.lc_log_side.specs.Among.{IsAmong};
-ghost use Rattle.lc_log_side.specs.Published.{published, records_of, IsWhole};
-ghost use Rattle.lc_segments.specs.Published.{IsStart};
+ghost use Rattle.lc_log_side.specs.Published.{published, records_of, IsWhole, IsStart};
 
 use crate::log_side::LogSide;
 use lc_disk::Area;

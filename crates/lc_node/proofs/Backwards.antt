@@ -1,4 +1,4 @@
--- A list is changed element by element, from the back, beside another that is taken apart.
+-- Of a node: a list is changed element by element, from the back, beside another that is taken apart.
 use Rattle.std.proofs.Common.{◌≡◌, ℕ, ◌+◌, ◌<◌, ◌≤◌, List, [], ◌∷◌, ◌++◌, Some, length, get_or, set, sym, ap, subst, ◌∙◌, arith, length-append}
 use mathlib.Core.Logic.{dite}
 use native.Mathlib.Decide.{dec_le}

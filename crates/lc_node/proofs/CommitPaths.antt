@@ -9,8 +9,7 @@ use Rattle.lc_tx.specs.declared.tx_fault.TxFault.{TxFault}
 use Rattle.lc_tx.specs.Images.{bytes_of}
 use Rattle.lc_tx.specs.Prepared.{AreSmall}
 use Rattle.lc_node.specs.Attempts.{IsUnbegun, IsUndone}
-use Rattle.lc_node.specs.Commits.{CommitsWork, IsAsBefore, IsKept, IsKeptTidy, IsUnbegunOn, IsUncommitted, IsUnstaged, TakesOf, bytes_at}
-use Rattle.lc_segments.specs.Commits.{StagesWork}
+use Rattle.lc_node.specs.Commits.{CommitsWork, IsAsBefore, IsKept, IsKeptTidy, IsUnbegunOn, IsUncommitted, IsUnstaged, StagesWork, TakesOf, bytes_at}
 use Rattle.lc_segments.specs.Each.{Each}
 use Rattle.lc_node.specs.Each.{EachThree}
 use Rattle.lc_node.specs.Held.{lent_side}

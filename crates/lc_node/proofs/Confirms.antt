@@ -1,4 +1,4 @@
--- The record of a receipt stands in the stable words.
+-- Of a node: the record of a receipt stands in the stable words.
 use Rattle.std.proofs.Common.{ap}
 use lib.ListN.{get_elem?, get_or-append}
 use Rattle.lc_stage.specs.declared.stage_view.StageView.{StageView}

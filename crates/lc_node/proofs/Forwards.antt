@@ -1,4 +1,4 @@
--- A list is changed element by element, from the front.
+-- Of a node: a list is changed element by element, from the front.
 use Rattle.std.proofs.Common.{ℕ, ◌≤◌, List, All, length, get_or, refl, arith}
 use mathlib.Core.Logic.{dite}
 use native.Mathlib.Decide.{dec_le}

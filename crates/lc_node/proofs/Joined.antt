@@ -1,4 +1,5 @@
--- Lists that are filled side by side, and a list of which each thing is so, taken from its front; and the nodes that came up so.
+-- Of a node: lists that are filled side by side, and a list of which each thing is so, taken from its front; and the
+-- nodes that came up so.
 use Rattle.std.proofs.Common.{◌≡◌, List, [], ◌∷◌, ◌++◌, All, sym, subst}
 use Rattle.std.proofs.lemmas.List.Elements.{All-push}
 

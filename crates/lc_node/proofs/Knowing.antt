@@ -1,4 +1,4 @@
--- What is known stays known.
+-- Of a node: what is known stays known.
 use Rattle.std.proofs.Common.{◌≡◌, List, [], All, length, ap, arith}
 
 -- no round has ended

@@ -1,4 +1,4 @@
--- What a cluster leaves, of what stands at its members.
+-- Of a node: what a cluster leaves, of what stands at its members.
 use Rattle.std.proofs.Common.{◌≡◌, All, length}
 use Rattle.lc_disk.specs.declared.area.Area.{Ghosts}
 use Rattle.lc_rest.specs.Parts.{AreKept, KeepsPages}

@@ -1,4 +1,4 @@
--- The tokens that a cluster leaves.
+-- Of a node: the tokens that a cluster leaves.
 use Rattle.std.proofs.Common.{◌≡◌, ◌*◌, ◌<◌, length, arith}
 use Rattle.lc_disk.specs.declared.area.Area.{Ghosts}
 use Rattle.lc_page.specs.PageVector.{entry_at, entry_text}

@@ -1,4 +1,4 @@
--- A message is answered, and is kept where it comes back.
+-- Of a node: a message is answered, and is kept where it comes back.
 use Rattle.std.proofs.Common.{◌≡◌, ℕ, [], Some, None, true, false, refl, subst, inr}
 use Rattle.std.specs.Prelude.{◌↔◌, Bool, Err, IfErr, IsSome, Ok, OnErr, Option, Result}
 use Rattle.std.proofs.lemmas.List.Elements.{All-nil}

@@ -1,4 +1,4 @@
--- The messages of a peer are gone on with one after another.
+-- Of a node: the messages of a peer are gone on with one after another.
 use Rattle.std.specs.Prelude.{Bool}
 use Rattle.lc_token.specs.declared.received.Received.{Received}
 use Rattle.lc_token.specs.declared.received.Received.TheVariants.{Applied as IsApplied, HeldBack as IsHeldBack, Ignored as IsIgnored}

@@ -1,4 +1,4 @@
--- The records whose words a list of words is.
+-- Of a node: the records whose words a list of words is.
 use Rattle.std.proofs.Common.{◌≡◌, [], length, refl}
 use lib.ListN.{get_or, get_or-append}
 use Rattle.lc_log_side.specs.Published.{records_of}

@@ -1,4 +1,4 @@
--- What was made ready for a record at a segment is gone on with, or taken back.
+-- Of a node: what was made ready for a record at a segment is gone on with, or taken back.
 use Rattle.std.proofs.Common.{◌≡◌, ◌+◌, Option, Some, None, sym, ap, ◌∙◌, inl, inr}
 use Rattle.lc_record.specs.declared.part.Part.{Part}
 use Rattle.lc_token.specs.Backlog.{Backlog}

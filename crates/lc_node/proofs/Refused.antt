@@ -1,4 +1,4 @@
--- Where what a cluster leaves is refused.
+-- Of a node: where what a cluster leaves is refused.
 use Rattle.std.proofs.Common.{◌≡◌, ◌⊎◌, ℕ, inl, inr, refl, ap}
 use Rattle.lc_rest.specs.declared.cluster_part.ClusterPart.TheVariants.{Log}
 use Rattle.lc_segments.specs.Refusals.{StopsSegment}

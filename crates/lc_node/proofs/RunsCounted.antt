@@ -30,8 +30,7 @@ use Rattle.lc_segments.specs.Sides.{IsOut, if_any, part_for, number_in as number
 use Rattle.lc_segments.specs.declared.held.HeldSide.{HeldSide}
 use Rattle.lc_segments.specs.declared.lent.LentSlot.{LentSlot}
 use Rattle.lc_segments.specs.declared.lent.HeldImages.{HeldImages}
-use Rattle.lc_node.proofs.CommitKeeps.{number_some, some_number}
-use Rattle.lc_segments.proofs.CommitKeeps.{was}
+use Rattle.lc_node.proofs.CommitKeeps.{number_some, some_number, was}
 use Rattle.lc_node.proofs.PartsOf.{number_fits}
 use Rattle.lc_segments.proofs.Slots.{AscendFrom, SameBeside, each_of, got_map, same_beside}
 use Rattle.lc_node.proofs.Slots.{each_to, map_got}

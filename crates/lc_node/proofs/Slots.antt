@@ -1,4 +1,4 @@
--- The slots of lent images, by their segments, which ascend.
+-- Of a node: the slots of lent images, by their segments, which ascend.
 use Rattle.std.proofs.Common.{◌≡◌, ℕ, zero, suc, ◌<◌, eqb, true, List, [], ◌∷◌, Some, None, map, refl, sym, ap, ◌∙◌, inl, inr, arith, eqb-true}
 use Rattle.std.specs.Prelude.{slice_get, Option}
 use Rattle.std.proofs.lemmas.Bool.{or_cases, false≢true}

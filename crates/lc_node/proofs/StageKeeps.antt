@@ -9,8 +9,7 @@ use Rattle.std.proofs.lemmas.Bool.{lt-ltb}
 use Rattle.lc_stage.specs.declared.stage_view.StageView.{StageView}
 use Rattle.lc_stage.specs.declared.stage_view.Reservation.{Reservation}
 use Rattle.lc_stage.specs.Staging.{saw, reserved, filled, shut_with, latest, later, rank, LieBelow, newest, with_newest, offset_of, round_of}
-use Rattle.lc_node.specs.Stages.{Sees, Wins, IsFilling, with_words}
-use Rattle.lc_segments.specs.Stages.{Closes}
+use Rattle.lc_node.specs.Stages.{Closes, Sees, Wins, IsFilling, with_words}
 
 pub wins : (v u w : StageView) (at n : ℕ) → Sees v u → at ≡ u.seen → w ≡ reserved at n u → LieBelow at u.mine → Wins n v w
 wins v u w at n sees last is below = let seen : w.seen ≡ u.seen = ap (λ (z : StageView). z.seen) is in (

@@ -1,4 +1,4 @@
--- What becomes of a record that a peer published, at the segments of a node.
+-- Of a node: what becomes of a record that a peer published, at the segments of a node.
 use Rattle.std.specs.Prelude.{◌≡◌, ◌⊎◌, None, Some, IsSome, IsSomeAnd}
 use Rattle.lc_record.specs.declared.record.Record.{Record}
 use Rattle.lc_record.specs.Part.{part_of}

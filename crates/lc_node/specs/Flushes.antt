@@ -1,4 +1,4 @@
--- What a flush does.
+-- Of a node: what a flush does.
 use Rattle.std.specs.Prelude.{ℕ}
 use Rattle.lc_disk.specs.declared.area.Area.{Ghosts}
 use Rattle.lc_log_side.specs.LogView.{LogView}

@@ -1,4 +1,5 @@
--- What a cluster forgets: which records all its nodes have applied, as was seen under the locks of their segments.
+-- Of a node: what a cluster forgets: which records all its nodes have applied, as was seen under the locks of their
+-- segments.
 use Rattle.std.specs.Prelude.{◌≡◌, ℕ, ◌+◌}
 use Rattle.lc_node.specs.Held.{IsHeldOf}
 use Rattle.lc_segments.specs.declared.held.HeldSide.{HeldSide}

@@ -1,4 +1,4 @@
--- What a segment of a recovered store is, as it comes up at a node.
+-- Of a node: what a segment of a recovered store is, as it comes up at a node.
 use Rattle.std.specs.Prelude.{◌≡◌, ℕ, ◌<◌, ◌≤◌, ◌^◌, List, length, map, Some}
 use Rattle.std.specs.List.{flat_map}
 use Rattle.std.specs.Global.{Vec}

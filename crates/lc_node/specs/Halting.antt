@@ -1,4 +1,4 @@
--- What keeps a node from serving on.
+-- Of a node: what keeps a node from serving on.
 use Rattle.std.specs.Prelude.{◌≡◌, ℕ, ◌<◌, true}
 use Rattle.lc_log_side.specs.LogView.{LogView}
 use Rattle.lc_segments.specs.declared.node_fault.NodeFault.{NodeFault}

@@ -1,4 +1,4 @@
--- What a cluster leaves once its threads have ended.
+-- Of a node: what a cluster leaves once its threads have ended.
 use Rattle.std.specs.Prelude.{◌≡◌, ℕ, ◌++◌, List, Some, All, length, map}
 use Rattle.std.specs.List.{flat_map}
 use Rattle.lc_disk.specs.declared.area.Area.{Ghosts}

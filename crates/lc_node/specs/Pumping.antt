@@ -1,4 +1,4 @@
--- What a pump does with the messages of a peer.
+-- Of a node: what a pump does with the messages of a peer.
 use Rattle.lc_node.specs.declared.delivered.Delivered.{Delivered}
 use Rattle.lc_node.specs.declared.message.Message.{Message}
 use Rattle.lc_node.specs.declared.message.Message.TheVariants.{Record, Token}

@@ -1,4 +1,4 @@
--- A run of a work, as its caller knows it.
+-- Of a node: a run of a work, as its caller knows it.
 use Rattle.std.specs.Prelude.{◌≡◌, ◌⊎◌, ℕ, List, [], Option, Some, None, IsTrue, Ok, Err}
 use Rattle.lc_record.specs.Part.{part_of}
 use Rattle.lc_record.specs.Transaction.{is_member}

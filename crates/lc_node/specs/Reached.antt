@@ -1,4 +1,4 @@
--- What became of a message from a peer at the segments of a node, under the locks that it got.
+-- Of a node: what became of a message from a peer at the segments of a node, under the locks that it got.
 use Rattle.std.specs.Prelude.{◌≡◌, ◌⊎◌, ◌↔◌, ℕ, List, All, Option, Some, None, Result, Ok, Err, IsSome, IsTrue, map, slice_get}
 use Rattle.lc_record.specs.Codec.{BeginsNoRecord, BeginsWith}
 use Rattle.lc_record.specs.Record.{record_len}

@@ -1,4 +1,4 @@
--- What is made ready for a record at a segment, before any is applied.
+-- Of a node: what is made ready for a record at a segment, before any is applied.
 use Rattle.std.specs.Prelude.{◌≡◌, Option}
 use Rattle.lc_record.specs.declared.part.Part.{Part}
 use Rattle.lc_record.specs.declared.record.Record.{Record}

@@ -1,4 +1,4 @@
--- Where what a cluster leaves is refused, and by which fault.
+-- Of a node: where what a cluster leaves is refused, and by which fault.
 use Rattle.std.specs.Prelude.{◌≡◌, ◌≢◌, ◌⊎◌, ◌<◌, ◌≤◌, ◌*◌, ◌==◌, ℕ, List, Option, Some, IsSomeAnd, find, length, option_map, position, remove, slice_get}
 use Rattle.lc_disk.specs.declared.area.Area.{Ghosts}
 use Rattle.lc_record.specs.declared.geometry.Geometry.{Geometry}

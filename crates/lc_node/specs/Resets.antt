@@ -1,4 +1,4 @@
--- What the reset of a log does.
+-- Of a node: what the reset of a log does.
 use Rattle.std.specs.Prelude.{◌≡◌}
 use Rattle.lc_log_side.specs.LogView.{LogView}
 

@@ -1,4 +1,4 @@
--- How a committer's receipt is looked for in a node's log.
+-- Of a node: how a committer's receipt is looked for in a node's log.
 use Rattle.std.specs.Prelude.{Option, Result}
 use Rattle.lc_disk.specs.declared.area.Area.{Ghosts}
 use Rattle.lc_stage.specs.declared.receipt.Receipt.{Receipt}

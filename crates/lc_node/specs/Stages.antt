@@ -1,10 +1,20 @@
 -- What a committer's seat gains as it stages a record.
-use Rattle.std.specs.Prelude.{◌≡◌, ℕ, ◌+◌, ◌<◌, List, ◌∷◌, length, slice_index}
+use Rattle.std.specs.Prelude.{◌≡◌, ℕ, ◌+◌, ◌<◌, List, ◌∷◌, length, slice_index, ◌/◌, true}
 use Rattle.lc_record.specs.Record.{Chain}
 use Rattle.lc_stage.specs.declared.stage_view.StageView.{StageView}
-use Rattle.lc_stage.specs.Staging.{saw, reserved, with_newest, offset_of, seal_of, LieBelow}
+use Rattle.lc_stage.specs.Staging.{saw, reserved, with_newest, offset_of, seal_of, LieBelow, latest}
 use Rattle.lc_segments.specs.declared.node_fault.NodeFault.{NodeFault}
 use Rattle.lc_segments.specs.declared.node_fault.NodeFault.TheVariants.{Full, Sealed, Lost}
+use Rattle.lc_stage.specs.declared.stage_view.Reservation.{Reservation}
+
+-- the seat has one closed reservation more, of these words, which is its last by round and place
+pub record Closes (words : List ℕ) (v w : StageView) : Type 0 where
+  pub reservation : Reservation
+  pub closed : reservation.closed ≡ true
+  pub words_are : reservation.words ≡ words
+  pub of_tail : (reservation.round ≡ w.seen / 65536) × (reservation.place ≡ offset_of w.seen)
+  pub is : w ≡ record v { seen = w.seen; mine = reservation ∷ v.mine }
+  pub last : latest w.mine ≡ reservation
 
 -- the seat has only seen a tail
 abbrev pub Sees : StageView → StageView → Type 0

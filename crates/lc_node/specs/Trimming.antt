@@ -1,4 +1,4 @@
--- What a log forgets of the rounds that have ended.
+-- Of a node: what a log forgets of the rounds that have ended.
 use Rattle.std.specs.Prelude.{◌≡◌, Bool, true, false}
 use Rattle.lc_log_side.specs.LogView.{LogView}
 use Rattle.lc_log_side.specs.Trimming.{ForgetsEnded}

@@ -1,4 +1,4 @@
--- What a truncation does to the segments that it holds, and to the log.
+-- Of a node: what a truncation does to the segments that it holds, and to the log.
 use Rattle.std.specs.Prelude.{◌≡◌, ◌⊎◌, ℕ, Bool, false, List, All, length, map, take}
 use Rattle.lc_disk.specs.declared.area.Area.{Ghosts}
 use Rattle.lc_record.specs.Marks.{counting}

@@ -9,7 +9,6 @@ mod cleaning;
 mod commit_kind;
 mod committing;
 mod delivered;
-mod forgetting;
 mod fresh;
 mod gate;
 mod halting;
@@ -18,7 +17,6 @@ mod holding;
 mod leaving_alone;
 mod leaving_nodes;
 mod leaving_segments;
-mod lending;
 mod locked_commit;
 mod log_room;
 mod making_room;
@@ -49,10 +47,10 @@ mod vacant;
 pub use commit_kind::{Commit, Mode};
 pub use gate::Gate;
 pub use held::Held;
-pub use lc_log_side::{Confirmed, LogSide};
+pub use lc_log_side::{Confirmed, LogSide, starts_stay};
 pub use lc_segments::{
-    Get, NodeFault, Put, SegSide, Snapshot, Travelling, Work, starts_stay, work_is_laid_over,
-    works_nothing, works_range, works_then, works_write,
+    Get, NodeFault, Put, SegSide, Snapshot, Travelling, Work, work_is_laid_over, works_nothing,
+    works_range, works_then, works_write,
 };
 pub use message::Message;
 pub use node::Node;

@@ -1,7 +1,8 @@
 //! What a running node tells of its store, of its log and of its tokens.
-ghost use Rattle.std.specs.Prelude.{◌≡◌, false};
+ghost use Rattle.std.specs.Prelude.{◌≡◌, false, ◌<◌, length};
 ghost use Rattle.lc_node.specs.Telling.{TakesWords, HasTokenOf};
 ghost use Rattle.lc_node.specs.Held.{HasSegment};
+ghost use Rattle.lc_node.specs.Forgetting.{HasApplied};
 
 use crate::node::Node;
 use lc_disk::Area;
@@ -40,5 +41,19 @@ impl<D: Area + Drop> Node<D> {
         let has_token = side.inner.has_token();
         lock.unlock(side, loan);
         has_token
+    }
+}
+
+impl<D: Area + Drop> Node<D> {
+    /// Up to which number it has applied the records of the segment at a place.
+    pub fn applied<R: Wait>(&self, rt: &R, place: usize) -> u64
+        requires { place < length self.now.segments.items }
+        ensures { HasApplied self.now place result }
+    {
+        let lock = &self.segments[place];
+        let (side, loan) = lock.lock(rt);
+        let applied = side.inner.applied_number();
+        lock.unlock(side, loan);
+        applied
     }
 }

@@ -5,7 +5,7 @@ use Rattle.std.specs.Global.{Vec}
 use Rattle.std.proofs.lemmas.List.{drop_at, length-map, map-append, take_at, get_or_append_left}
 use Rattle.std.proofs.Math.Seq.{get_or-append_seam}
 use Rattle.std.proofs.lemmas.List.Elements.{All-append}
-use Rattle.std.proofs.lemmas.Option.{slice_get_within}
+use Rattle.std.proofs.lemmas.Option.{slice_get_within, same_Some as same_some}
 use Rattle.lc_disk.specs.declared.area.Area.{Ghosts}
 use Rattle.lc_log.specs.LogText.{IsWhole}
 use Rattle.lc_record.specs.declared.geometry.Geometry.{Geometry}
@@ -16,7 +16,6 @@ use Rattle.lc_rest.specs.AtRest.{IsReadLog}
 use Rattle.lc_journal.specs.Kept.{closed_record}
 use Rattle.lc_rest.specs.Parts.{AreSpelled, KeepsLog}
 use Rattle.lc_journal.specs.Pieces.{IsNodePiece}
-use Rattle.lc_settled.specs.Places.{same_some}
 use Rattle.lc_reading.specs.ReadNodes.{AreReadNodes, HasOneMore, IsReadNode, IsReadPart, images_of}
 use Rattle.lc_journal.specs.Records.{KeptRecords}
 use Rattle.lc_reading.specs.declared.node_images.NodeImages.{NodeImages}

@@ -4,8 +4,8 @@ use Rattle.std.specs.Prelude.{slice_get, slice_index_or}
 use Rattle.std.proofs.lemmas.Bool.{cases_lt}
 use Rattle.std.proofs.Common.{inl, inr}
 use Rattle.std.proofs.lemmas.List.{get_or_default}
+use Rattle.std.proofs.lemmas.Option.{same_Some as same_some}
 use Rattle.lc_rest.specs.Merge.{number_at}
-use Rattle.lc_settled.specs.Places.{same_some}
 use Rattle.lc_reading.specs.declared.node_images.NodeImages.{NodeImages}
 
 -- the number at a place

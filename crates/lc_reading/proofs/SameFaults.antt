@@ -1,4 +1,4 @@
--- Why a cluster at rest is not adopted, handed on.
+-- Of a cluster that is read: why a cluster at rest is not adopted, handed on.
 use Rattle.std.proofs.Common.{◌≡◌}
 use Rattle.std.specs.Prelude.{Err, Result}
 use Rattle.lc_rest.specs.declared.adopt_fault.AdoptFault.{AdoptFault}

@@ -1,4 +1,4 @@
--- A node's piece of records whose words are all there is.
+-- Of a cluster that is read: a node's piece of records whose words are all there is.
 use Rattle.std.proofs.Common.{ℕ, ◌-◌, ◌<◌, List, take, arith}
 use Rattle.std.proofs.lemmas.List.{length-take-le}
 use Rattle.lc_record.specs.Codec.{BeginsWith}

@@ -1,4 +1,4 @@
--- What the pieces of a store are that is built of the parts of a cluster at rest.
+-- Of a cluster that is read: what the pieces of a store are that is built of the parts of a cluster at rest.
 use Rattle.std.specs.Prelude.{◌≡◌, ℕ, ◌+◌, true, if◌then◌else◌}
 use Rattle.lc_disk.specs.declared.area.Area.{Ghosts}
 use Rattle.lc_rest.specs.Merge.{number_at}

@@ -1,4 +1,4 @@
--- The tokens that a cluster leaves.
+-- Of a segment: the tokens that a cluster leaves.
 use Rattle.std.proofs.Common.{◌≡◌, ℕ, List, [], Option, Some, None, refl, sym, ap, subst, ◌∙◌}
 use Rattle.lc_disk.specs.declared.area.Area.{Ghosts}
 use Rattle.lc_token.specs.declared.token.Token.{Token}

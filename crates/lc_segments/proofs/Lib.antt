@@ -1,7 +1,6 @@
 pub mod Applied
 pub mod Arrived
 pub mod CatchingUp
-pub mod CommitKeeps
 pub mod Counted
 pub mod CountedFits
 pub mod Laying

@@ -1,4 +1,4 @@
--- What the pages of held segments are after their writes.
+-- Of a segment: what the pages of held segments are after their writes.
 use Rattle.std.proofs.Common.{◌≡◌, ℕ, List, Some, None, length, refl, ap, subst, ◌∙◌}
 use Rattle.std.specs.Prelude.{Option, IsSomeAnd}
 use Rattle.std.specs.Option.{ForSome}

@@ -1,4 +1,4 @@
--- What was made ready for a record at a segment is gone on with, or taken back.
+-- Of a segment: what was made ready for a record at a segment is gone on with, or taken back.
 use Rattle.std.proofs.Common.{◌≡◌, ℕ, Option, Some, None, refl, sym, ap, ◌∙◌, inl}
 use Rattle.lc_record.specs.declared.part.Part.{Part}
 use Rattle.lc_token.specs.Backlog.{Backlog, forgetting, keeping}

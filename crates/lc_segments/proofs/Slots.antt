@@ -1,4 +1,4 @@
--- The slots of lent images, by their segments, which ascend.
+-- Of a segment: the slots of lent images, by their segments, which ascend.
 use Rattle.std.proofs.Common.{◌≡◌, ℕ, zero, suc, ◌+◌, ◌≤◌, cond, eqb, Bool, true, List, [], ◌∷◌, Some, length, map, refl, sym, ap, subst, ◌∙◌, arith, eq-eqb}
 use Rattle.std.specs.Prelude.{slice_get, Option}
 use Rattle.std.proofs.lemmas.Bool.{or_left, or_right, ne_eqb}

@@ -1,4 +1,4 @@
--- How much parts take, and sides whose parts are folded where they take too much.
+-- Of a segment: how much parts take, and sides whose parts are folded where they take too much.
 use Rattle.std.proofs.Common.{◌≡◌, ◌+◌, List, [], ◌∷◌, ◌++◌, arith}
 use mathlib.Core.Logic.{dite}
 use native.Mathlib.Decide.{dec_le}

@@ -1,4 +1,4 @@
--- What the work of a transaction leaves, until its end.
+-- Of a segment: what the work of a transaction leaves, until its end.
 use Rattle.std.specs.Prelude.{◌≡◌, ℕ, false, List, length, unwrap_or, slice_index, IsTrue}
 use Rattle.lc_record.specs.Transaction.{is_member}
 use Rattle.lc_range.specs.RangeSet.{Has}

@@ -1,4 +1,4 @@
--- What becomes of a record that a peer published, at the segments of a node.
+-- Of a segment: what becomes of a record that a peer published, at the segments of a node.
 use Rattle.std.specs.Prelude.{◌≡◌, ◌⊎◌, ℕ, ◌+◌, ◌*◌, ◌≤◌, true, false, Option, None, Some, IsSomeAnd, length}
 use Rattle.lc_record.specs.declared.part.Part.{Part}
 use Rattle.lc_token.specs.Backlog.{is_known, keeping}

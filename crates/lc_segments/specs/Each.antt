@@ -1,4 +1,4 @@
--- Lists of one length, whose elements at each place stand in a relation.
+-- Of a segment: lists of one length, whose elements at each place stand in a relation.
 use Rattle.std.specs.Prelude.{◌≡◌, ℕ, List, length, Some, slice_get}
 
 pub record Each {A B : Type 0} (R : A → B → Type 0) (xs : List A) (ys : List B) : Type 0 where

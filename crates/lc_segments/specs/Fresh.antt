@@ -1,4 +1,4 @@
--- What a segment of a recovered store is, as it comes up at a node.
+-- Of a segment: what a segment of a recovered store is, as it comes up at a node.
 use Rattle.std.specs.Prelude.{ℕ, [], None, Some}
 use Rattle.std.specs.Global.{Vec}
 use Rattle.lc_token.specs.Backlog.{fresh}

@@ -1,4 +1,4 @@
--- What a cluster leaves once its threads have ended.
+-- Of a segment: what a cluster leaves once its threads have ended.
 use Rattle.std.specs.Prelude.{◌≡◌, ◌<◌, ℕ, ◌++◌, List, [], ◌∷◌, Option, Some, None, length}
 use Rattle.lc_disk.specs.declared.area.Area.{Ghosts}
 use Rattle.lc_page.specs.PageVector.{entry_at, entry_text}

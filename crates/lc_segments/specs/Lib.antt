@@ -1,7 +1,6 @@
 pub mod Applying
 pub mod Arriving
 pub mod Attempts
-pub mod Commits
 pub mod Delivering
 pub mod Each
 pub mod Fault
@@ -15,14 +14,12 @@ pub mod LeftBy
 pub mod Refusals
 pub mod HeldImages
 pub mod Pages
-pub mod Published
 pub mod Put
 pub mod Ran
 pub mod Receptions
 pub mod SegSide
 pub mod SegView
 pub mod Sides
-pub mod Stages
 pub mod Touched
 pub mod Travelling
 pub mod Truncates

@@ -1,4 +1,4 @@
--- A run of a work, as its caller knows it.
+-- Of a segment: a run of a work, as its caller knows it.
 use Rattle.std.specs.Prelude.{◌≡◌, ◌≢◌, ℕ, List, [], map, length, IsTrue, Result}
 use Rattle.lc_record.specs.Transaction.{is_member}
 use Rattle.lc_record.specs.declared.record.Record.{Record}

@@ -1,4 +1,4 @@
--- What is made ready for a record at a segment, before any is applied.
+-- Of a segment: what is made ready for a record at a segment, before any is applied.
 use Rattle.std.specs.Prelude.{◌≡◌, ◌+◌, ◌≤◌, true, false, Option, None, Some, length}
 use Rattle.lc_record.specs.declared.part.Part.{Part}
 use Rattle.lc_token.specs.Backlog.{is_known, keeping}

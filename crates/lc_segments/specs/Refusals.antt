@@ -1,4 +1,4 @@
--- Where what a cluster leaves is refused, and by which fault.
+-- Of a segment: where what a cluster leaves is refused, and by which fault.
 use Rattle.std.specs.Prelude.{◌≡◌, ℕ}
 use Rattle.lc_rest.specs.declared.cluster_part.ClusterPart.TheVariants.{Log}
 use Rattle.lc_segments.specs.LeftBy.{HasFailed}

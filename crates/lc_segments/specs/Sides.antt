@@ -1,4 +1,4 @@
--- How the sides of held segments go through a commit.
+-- Of a segment: how the sides of held segments go through a commit.
 use Rattle.std.specs.Prelude.{List, unwrap_or, ◌≡◌, ℕ, ◌+◌, ◌<◌, ◌≤◌, ◌^◌, [], ◌∷◌, ◌++◌, length, Option, Some, None, IsSomeAnd}
 use Rattle.lc_record.specs.declared.part.Part.{Part}
 use Rattle.lc_range.specs.RangeSet.{EndWithin}

@@ -1,4 +1,4 @@
--- What a truncation does to the segments that it holds, and to the log.
+-- Of a segment: what a truncation does to the segments that it holds, and to the log.
 use Rattle.std.specs.Prelude.{◌≡◌, ◌⊎◌, ◌+◌, [], Some}
 use Rattle.lc_disk.specs.declared.area.Area.{Ghosts}
 use Rattle.lc_token.specs.declared.token.Token.{Token}

@@ -1,5 +1,5 @@
-//! Laws of transactions' works, and one of published records.
-ghost use Rattle.std.specs.Prelude.{◌≡◌, ◌++◌, ℕ, List, length, slice_index};
+//! Laws of transactions' works.
+ghost use Rattle.std.specs.Prelude.{◌≡◌, ℕ, List, length, slice_index};
 ghost use Rattle.lc_range.specs.RangeSet.{Has};
 ghost use Rattle.lc_range.specs.declared.range.Range.{Range as Run};
 ghost use Rattle.lc_tx.specs.declared.tx.Tx.{Tx as Kept};
@@ -7,7 +7,6 @@ ghost use Rattle.lc_tx.specs.Image.{laid_over};
 ghost use Rattle.lc_tx.specs.Images.{IsSame, IsWritten};
 ghost use Rattle.lc_tx.specs.Tx.{AreSet, Locked, RunsOn, SetsRange};
 ghost use Rattle.lc_segments.specs.Laid.{of_segment, LieInside};
-ghost use Rattle.lc_segments.specs.Published.{IsStart};
 ghost use Rattle.lc_segments.specs.Works.{Works};
 
 use lc_tx::Images;
@@ -43,10 +42,4 @@ pub fn works_write<I: Images>()
 /// What a work may do, and then what a work may do, is what a work may do.
 pub fn works_then<I: Images>()
     ensures { (a b c : I) (s t u : Kept) → Works I.Images a s b t → Works I.Images b t c u → Works I.Images a s c u }
-{}
-
-/// A place where a record begins stays one, whatever is published later.
-pub fn starts_stay()
-    ensures { (records more : List (List ℕ)) (count place : ℕ) → IsStart records count place
-        → IsStart (records ++ more) count place }
 {}

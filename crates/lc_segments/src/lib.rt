@@ -20,12 +20,10 @@ mod node_fault;
 mod page_area;
 mod page_writes;
 mod put;
-mod receiving_records;
 mod reception;
 mod scratch;
 mod seg_side;
 mod snapshot;
-mod telling;
 mod touching;
 mod travelling;
 mod work;
@@ -33,9 +31,7 @@ mod work;
 pub use boxed_side::BoxedSide;
 pub use get::Get;
 pub use held::HeldSide;
-pub use laws::{
-    starts_stay, work_is_laid_over, works_nothing, works_range, works_then, works_write,
-};
+pub use laws::{work_is_laid_over, works_nothing, works_range, works_then, works_write};
 pub use lent::{HeldImages, LentSlot};
 pub use node_fault::NodeFault;
 pub use page_area::PageArea;

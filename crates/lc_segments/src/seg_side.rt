@@ -1,4 +1,6 @@
 //! One segment at a running node.
+ghost use Rattle.std.specs.Prelude.{◌↔◌, IsSome, IsTrue};
+
 use crate::page_area::PageArea;
 use crate::scratch::Scratch;
 use crate::travelling::Travelling;
@@ -40,4 +42,13 @@ impl<D: Area> Model for SegSide<D> {
     ghost view = { seg_view };
 
     ghost invariant = { IsSegSide D.Area };
+}
+
+impl<D: Area> SegSide<D> {
+    /// Whether the token stands here.
+    pub fn has_token(&self) -> bool
+        ensures { IsTrue result ↔ IsSome self.now.standing.token }
+    {
+        !self.token.is_empty()
+    }
 }

@@ -1,4 +1,4 @@
--- A transaction that gets its place in the log, at a node's desk.
+-- Of state and numbers: a transaction that gets its place in the log, at a node's desk.
 use Rattle.std.proofs.Common.{◌≡◌, Bool, true, false, List, [], ◌∷◌, ◌++◌, filter, refl, ap}
 use Rattle.std.specs.Prelude.{if◌then◌else◌}
 

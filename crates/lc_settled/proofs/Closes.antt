@@ -1,4 +1,5 @@
--- A reservation that is closed, and a transaction that set nothing and is over, at a node's desk.
+-- Of state and numbers: a reservation that is closed, and a transaction that set nothing and is over, at a node's
+-- desk.
 use Rattle.std.proofs.Common.{◌≡◌, ℕ, true, false, [], ◌∷◌, map, refl, ap, ◌∙◌}
 use Rattle.std.specs.Prelude.{if◌then◌else◌}
 use Rattle.lc_model.specs.History.{Entry, History, entries_of, is_of}

@@ -1,4 +1,4 @@
--- A run of several events: with a step after it, and as a run of the plain machine.
+-- Of state and numbers: a run of several events: with a step after it, and as a run of the plain machine.
 use Rattle.std.proofs.Common.{List, [], ◌∷◌}
 use Rattle.lc_model.specs.Machine.{Run}
 use Rattle.lc_model.specs.State.{Setting, State}

@@ -1,4 +1,4 @@
--- What it is that the log of a node follows the machine.
+-- Of state and numbers: what it is that the log of a node follows the machine.
 use Rattle.std.specs.Prelude.{◌≡◌, ℕ}
 use Rattle.lc_model.specs.State.{State}
 

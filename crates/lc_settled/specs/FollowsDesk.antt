@@ -1,4 +1,4 @@
--- What it is that a node's transactions follow the machine.
+-- Of state and numbers: what it is that a node's transactions follow the machine.
 use Rattle.std.specs.Prelude.{◌≡◌, ℕ}
 use Rattle.lc_model.specs.State.{State, running_of}
 

@@ -1,7 +1,6 @@
 pub mod Numbers
 pub mod Settled
 pub mod Turns
-pub mod Places
 pub mod Follows
 pub mod FollowsDesk
 pub mod Runs

@@ -1,4 +1,4 @@
--- What it is that a store follows the machine and the numbers over a list of events.
+-- Of state and numbers: what it is that a store follows the machine and the numbers over a list of events.
 use Rattle.std.specs.Prelude.{◌≡◌, List, [], ◌∷◌}
 use Rattle.lc_model.specs.Machine.{Step}
 use Rattle.lc_model.specs.State.{Setting, State}

@@ -2,8 +2,8 @@
 use Rattle.std.proofs.Common.{◌≡◌, ℕ, zero, suc, List, [], ◌∷◌, All, length, Some, refl, sym, ap, subst, ◌∙◌}
 use Rattle.std.specs.Global.{Vec}
 use Rattle.std.specs.Prelude.{slice_get}
+use Rattle.std.proofs.lemmas.Option.{same_Some as same_some}
 use Rattle.lc_stage.specs.declared.seats.CommitSeat.{CommitSeat}
-use Rattle.lc_settled.specs.Places.{same_some}
 use Rattle.lc_cluster.specs.Cluster.{IsSeatAt, node_at}
 use Rattle.lc_cluster.specs.LeftBy.{AreOwnSeats}
 use Rattle.lc_log_side.specs.LeftBy.{IsIdleSeatOf}

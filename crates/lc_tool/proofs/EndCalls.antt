@@ -1,6 +1,7 @@
 -- An end of a store, by its one call, is one of the machine and the numbers; one that is down refuses it.
 use Rattle.std.proofs.Common.{◌≡◌, ℕ, Some, None, refl, sym, ap, subst, ◌∙◌}
 use Rattle.std.specs.Prelude.{Result, Ok, Err}
+use Rattle.std.proofs.lemmas.Option.{same_Some as same_some}
 use Rattle.lc_disk.specs.declared.area.Area.{Ghosts}
 use Rattle.lc_model.specs.State.{Setting, State}
 use Rattle.lc_model.specs.declared.event.Event.TheVariants.{Close, Reserve}
@@ -10,7 +11,6 @@ use Rattle.lc_model.specs.declared.reply.Reply.TheVariants.{Ok as Accepted, Ende
 use Rattle.lc_core.specs.Answered.{ClosesBehind, ComesTo, Ends, WantsMemory}
 use Rattle.lc_events.specs.Answered.{closed_at, done, place_taken}
 use Rattle.lc_settled.specs.Numbers.{Numbers}
-use Rattle.lc_settled.specs.Places.{same_some}
 use Rattle.lc_core.specs.Truncating.{StepsTo}
 use Rattle.lc_core.specs.World.{FitsWorld}
 use Rattle.lc_events.specs.declared.call_fault.CallFault.{CallFault}

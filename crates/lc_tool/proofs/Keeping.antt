@@ -2,6 +2,7 @@
 use Rattle.std.proofs.Common.{◌≡◌, ◌≢◌, ◌⊎◌, ◌∙◌, ℕ, Bool, true, false, List, Option, Some, None, refl, sym, ap, subst, inl, inr, true≢false}
 use Rattle.std.specs.Option.{ForSome}
 use Rattle.std.specs.Prelude.{Result, Ok, Err, IfOk, MatchBool, is_some, if◌then◌else◌}
+use Rattle.std.proofs.lemmas.Option.{same_Some as same_some}
 use Rattle.lc_disk.specs.declared.area.Area.{Ghosts}
 use Rattle.lc_record.specs.declared.geometry.Geometry.{Geometry}
 use Rattle.lc_record.proofs.ListLemmas.{none_from_is_some as none_some, some_from_is_some as some_some}
@@ -13,7 +14,6 @@ use Rattle.lc_model.specs.declared.reply.Reply.{Reply}
 use Rattle.lc_core.specs.Geometries.{RefusesOutside, phase_geometry}
 use Rattle.lc_core.specs.Lives.{StillLives}
 use Rattle.lc_core.specs.LogWords.{ReadsLog, ReadsNone, log_area}
-use Rattle.lc_settled.specs.Places.{same_some}
 use Rattle.lc_core.specs.Recovers.{RefusesAtOnce}
 use Rattle.lc_core.specs.declared.world_phase.WorldPhase.{WorldPhase}
 use Rattle.lc_core.specs.declared.world_phase.WorldPhase.TheVariants.{Down, Up, Taken}

@@ -2,6 +2,7 @@
 use Rattle.std.proofs.Common.{◌≡◌, ◌⊎◌, ◌∙◌, ℕ, zero, suc, ◌+◌, ◌<◌, ◌≤◌, ◌==◌, Bool, true, false, not, ◌&&◌, nat_lt, List, [], ◌∷◌, ◌++◌, Option, Some, None, refl, sym, ap, subst, arith, inl, inr, lt-ltb, true≢false}
 use Rattle.std.specs.Prelude.{IsTrue, MatchBool, MatchOption, nat_le}
 use Rattle.std.proofs.lemmas.Bool.{le-leb, and_parts as and-both}
+use Rattle.std.proofs.lemmas.Option.{same_Some as same_some}
 use Rattle.lc_record.specs.Marks.{ascending, is_empty}
 use Rattle.lc_record.specs.Transaction.{Transaction}
 use Rattle.lc_record.specs.declared.geometry.Geometry.{Geometry}
@@ -19,7 +20,6 @@ use Rattle.lc_events.specs.Geometries.{is_delivery}
 use Rattle.lc_core.specs.Lives.{AnswersDown, AnswersOne, AnswersUp, IsBorn, Life}
 use Rattle.lc_settled.specs.Numbers.{Numbers}
 use Rattle.lc_core.specs.Due.{is_due_then}
-use Rattle.lc_settled.specs.Places.{same_some}
 use Rattle.lc_core.specs.Showing.{image_of}
 use Rattle.lc_desk.specs.Showing.{page_of}
 use Rattle.lc_core.specs.Truncating.{ending, stopping}

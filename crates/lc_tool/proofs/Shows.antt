@@ -9,7 +9,6 @@ use Rattle.lc_model.specs.declared.refusal.Refusal.{Refusal}
 use Rattle.lc_model.specs.declared.refusal.Refusal.TheVariants.{Down as IsDown, Unknown}
 use Rattle.lc_settled.specs.Numbers.{Numbers}
 use Rattle.lc_core.specs.Lives.{FitsLife, Life, ShowsLife}
-use Rattle.lc_settled.specs.Places.{same_some}
 use Rattle.lc_core.specs.Observed.{has_page}
 use Rattle.lc_core.specs.Showing.{ShowsPage, image_of}
 use Rattle.lc_desk.specs.Showing.{page_of}
@@ -28,6 +27,7 @@ use Rattle.lc_text.specs.declared.command.Command.TheVariants.{Show}
 use Rattle.lc_tool.specs.declared.verdict.Verdict.{Verdict}
 use Rattle.lc_tool.specs.declared.verdict.Verdict.TheVariants.{Done, Refused}
 use Rattle.std.specs.Io.KnownBytes.{Appends}
+use Rattle.std.proofs.lemmas.Option.{same_Some as same_some}
 use Rattle.lc_tool.proofs.Beside.{Tells, either_tells, life_of}
 use Rattle.lc_core.proofs.Asking.{down_fits}
 

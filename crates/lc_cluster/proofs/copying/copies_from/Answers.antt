@@ -2,8 +2,7 @@ use Rattle.std.proofs.Common.{rules, ◌≡◌, ◌+◌, ◌-◌, ◌∷◌, [],
 use Rattle.std.specs.Global.{Vec}
 use Rattle.std.specs.List.{concat}
 use Rattle.lc_cluster.specs.Copies.{texts, FitBehind, AreBehind}
-use Rattle.lc_log_side.specs.Published.{published}
-use Rattle.lc_segments.specs.Published.{IsStart}
+use Rattle.lc_log_side.specs.Published.{published, IsStart}
 use Rattle.lc_cluster.proofs.Copied.{words_more, fit_none, fit_more, behind_none, behind_more, count_is}
 use Rattle.lc_cluster.proofs.copying.copies_from.Goals as goal
 

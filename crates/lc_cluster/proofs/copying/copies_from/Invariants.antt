@@ -2,8 +2,7 @@ use Rattle.std.proofs.Common.{◌≡◌, ◌+◌, ◌≤◌, ℕ, length}
 use Rattle.std.specs.List.{concat}
 use Rattle.std.specs.VecDeque.{deque_capacity}
 use Rattle.lc_cluster.specs.Copies.{texts, FitBehind, AreBehind}
-use Rattle.lc_log_side.specs.Published.{published}
-use Rattle.lc_segments.specs.Published.{IsStart}
+use Rattle.lc_log_side.specs.Published.{published, IsStart}
 use Rattle.lc_cluster.proofs.copying.copies_from.Given as goal
 
 abbrev pub invariant-loop : goal.invariant-loop

@@ -1,13 +1,12 @@
 use Rattle.std.proofs.Common.{◌≡◌, ℕ, ◌<◌, ◌≤◌, drop, length, Option, Some, refl, sym, ap, subst, ◌∙◌, arith}
 use Rattle.std.specs.Prelude.{slice_get, slice_index_or}
 use Rattle.std.proofs.lemmas.List.{drop-drop}
-use Rattle.std.proofs.lemmas.Option.{slice_get-get_or, slice_get_within}
+use Rattle.std.proofs.lemmas.Option.{slice_get-get_or, slice_get_within, same_Some as same_some}
 use Rattle.lc_token.specs.declared.token.Token.{Token}
 use Rattle.lc_record.proofs.ListLemmas.{slice_get_some as some_at, left_first as next_left, left_some as some_left_over, set_behind as behind_set}
 use Rattle.lc_events.specs.Pieces.{IsMadeNode}
 use Rattle.lc_desk.specs.Pieces.{left_at}
 use Rattle.lc_core.specs.Pieces.{left_by}
-use Rattle.lc_settled.specs.Places.{same_some}
 use Rattle.lc_events.specs.declared.node_state.NodeState.{NodeState}
 use Rattle.lc_journal.specs.declared.node_piece.NodePiece.{NodePiece}
 use Rattle.lc_desk.proofs.Furnishing.{front_set}

@@ -2,10 +2,9 @@ use Rattle.std.proofs.Common.{◌≡◌, ◌<◌, ◌∷◌, [], None, Some, dro
 use Rattle.std.specs.Prelude.{slice_get}
 use Rattle.std.proofs.lemmas.Bool.{cases_eq}
 use Rattle.std.proofs.lemmas.List.{drop-drop}
-use Rattle.std.proofs.lemmas.Option.{slice_get_within}
+use Rattle.std.proofs.lemmas.Option.{slice_get_within, same_Some as same_some}
 use Rattle.lc_record.proofs.ListLemmas.{slice_get-append_left as front_get, left_first as first_left, left_some as some_left}
 use Rattle.lc_journal.specs.Log.{area_of}
-use Rattle.lc_settled.specs.Places.{same_some}
 use Rattle.lc_events.specs.declared.node_state.NodeState.{NodeState}
 use Rattle.lc_core.proofs.Devices.{log_area_of}
 use Rattle.lc_core.proofs.Gathering.{last_get}

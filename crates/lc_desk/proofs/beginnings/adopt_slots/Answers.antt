@@ -1,12 +1,11 @@
 use Rattle.std.proofs.Common.{◌≡◌, ◌+◌, ◌<◌, ◌≤◌, length, Option, Some, sym, ap, subst, ◌∙◌, arith}
 use Rattle.std.specs.Option.{ForSome}
 use Rattle.std.specs.Prelude.{slice_get, slice_index_or}
-use Rattle.std.proofs.lemmas.Option.{slice_get-get_or, slice_get_read, slice_get_within}
+use Rattle.std.proofs.lemmas.Option.{slice_get-get_or, slice_get_read, slice_get_within, same_Some as same_some}
 use Rattle.lc_token.specs.declared.token.Token.{Token}
 use Rattle.lc_record.proofs.ListLemmas.{slice_get_some as some_at, set_behind as behind_set}
 use Rattle.lc_desk.specs.Blank.{IsOfSegment}
 use Rattle.lc_desk.specs.Pieces.{IsMadeSlot, IsTokenOf, left_at, standing_at}
-use Rattle.lc_settled.specs.Places.{same_some}
 use Rattle.lc_desk.specs.declared.segment_piece.SegmentPiece.{SegmentPiece}
 use Rattle.lc_desk.proofs.Furnishing.{each_set, front_set}
 use Rattle.lc_desk.proofs.Pieces.{some_left}

@@ -1,9 +1,9 @@
 use Rattle.std.proofs.Common.{◌≡◌, ◌+◌, ◌*◌, ℕ, Bool, None, Some, refl, sym, ap, subst, ◌∙◌, arith, true≢false}
 use Rattle.std.specs.Prelude.{◌↔◌, IsTrue}
+use Rattle.std.proofs.lemmas.Option.{same_Some as same_some}
 use Rattle.lc_range.specs.RangeSet.{Has, IsCanonical}
 use Rattle.lc_tx.specs.declared.tx.Tx.{Tx}
 use Rattle.lc_desk.specs.Counts.{names_page}
-use Rattle.lc_settled.specs.Places.{same_some}
 use Rattle.lc_desk.specs.Seat.{Seat, Free, Open, Reserved, holder_of, set_of}
 use Rattle.lc_desk.specs.Uncommitted.{SetsPage}
 use Rattle.lc_desk.proofs.Counted.{has_meets, meets_has}

@@ -1,9 +1,8 @@
 use Rattle.std.proofs.Common.{◌≡◌, ◌<◌, ℕ, length, Some, slice_get, true, ap, sym, ◌∙◌, arith, below_more}
-use Rattle.std.proofs.lemmas.Option.{none-some, slice_get_within}
+use Rattle.std.proofs.lemmas.Option.{none-some, slice_get_within, same_Some as same_some}
 use Rattle.lc_record.specs.declared.record.Lock.{Lock}
 use Rattle.lc_record.proofs.ListLemmas.{slice_get_some as some_at}
 use Rattle.lc_settled.specs.Numbers.{is_applied}
-use Rattle.lc_settled.specs.Places.{same_some}
 use Rattle.lc_events.proofs.Trimmed.{all_pass, one_fails}
 use Rattle.lc_events.proofs.trimming.are_locks_applied.Goals as goal
 

@@ -1,11 +1,10 @@
 use Rattle.std.proofs.Common.{◌≡◌, ℕ, ◌<◌, ◌≤◌, Some, length, sym, subst, ◌∙◌, arith}
 use Rattle.std.specs.Prelude.{slice_get, slice_index_or, slice_set}
 use Rattle.std.specs.Global.{Vec}
-use Rattle.std.proofs.lemmas.Option.{slice_get-get_or, slice_get_within}
+use Rattle.std.proofs.lemmas.Option.{slice_get-get_or, slice_get_within, same_Some as same_some}
 use Rattle.lc_record.proofs.ListLemmas.{each_push as each_pushed, set_behind as behind_set}
 use Rattle.lc_reading.specs.AsRead.{IsAsRead}
 use Rattle.lc_desk.specs.Places.{get_set_other, get_set_same}
-use Rattle.lc_settled.specs.Places.{same_some}
 use Rattle.lc_desk.proofs.Furnishing.{each_same}
 use Rattle.lc_reading.proofs.reading_areas.read_areas.Goals as goal
 

@@ -1,10 +1,9 @@
 use Rattle.std.proofs.Common.{◌≡◌, ℕ, Some, length, sym, ap, subst, ◌∙◌, arith}
 use Rattle.std.specs.Prelude.{slice_get}
 use Rattle.std.specs.Global.{Vec}
-use Rattle.std.proofs.lemmas.Option.{slice_get-get_or}
+use Rattle.std.proofs.lemmas.Option.{slice_get-get_or, same_Some as same_some}
 use Rattle.lc_rest.specs.Replay.{AreBytes}
 use Rattle.lc_record.proofs.ListLemmas.{each_push as each_pushed}
-use Rattle.lc_settled.specs.Places.{same_some}
 use Rattle.lc_desk.proofs.Furnishing.{each_same}
 use Rattle.lc_reading.proofs.reading_areas.read_pages.Goals as goal
 

@@ -12,15 +12,26 @@ use Rattle.lc_core.proofs.UpPages.{lengths_set, page_counts, page_follows_up, pa
 use Rattle.lc_events.proofs.Names.{common_may, common_quiet}
 use Rattle.lc_core.proofs.up.Up.page_step.Goals as goal
 
-pub returns-in-Some-clause-follows : goal.returns-in-Some-clause-follows
-returns-in-Some-clause-follows g c =
-    page_refused_up g.D.Area c.args.self.now _ refl refl c.args.node c.args.segment c.args.page c.refusal.result c.in-Some.refusal c.refusal.ensures.refused c.in-Some.is (common_quiet c.in-Some.refusal (c.refusal.ensures.names c.in-Some.refusal c.in-Some.is))
+pub returns-in-Some : goal.returns-in-Some
+returns-in-Some g c = record {
+  follows = page_refused_up g.D.Area c.args.self.now _ refl refl c.args.node c.args.segment c.args.page c.page_refusal.result c.in-Some.refusal c.page_refusal.ensures.refused c.in-Some.is (common_quiet c.in-Some.refusal (c.page_refusal.ensures.names c.in-Some.refusal c.in-Some.is));
+  faults = no_faults _ _ _ (common_quiet c.in-Some.refusal (c.page_refusal.ensures.names c.in-Some.refusal c.in-Some.is)) refl;
+  geometry = refl;
+  unknown = c.page_refusal.ensures.unknown c.in-Some.refusal c.in-Some.is;
+  calls =
+      λ h areas has. (
+        areas,
+        (has.0, record { count = has.1.count; logs = has.1.logs; segments = has.1.segments }),
+        subst (λ (b : Bool). CallsWhere g.D.Area b h (PageStep c.args.node c.args.segment c.args.page) areas areas) (sym (common_quiet c.in-Some.refusal (c.page_refusal.ensures.names c.in-Some.refusal c.in-Some.is))) refl,
+      );
+  names = common_may (PageStep c.args.node c.args.segment c.args.page) c.in-Some.refusal refl (c.page_refusal.ensures.names c.in-Some.refusal c.in-Some.is);
+}
 
 pub invariant_of-self-2 : goal.invariant_of-self-2
 invariant_of-self-2 g c =
     let w = c.args.self.now in
     let segments = w.segments in
-    let named = page_known w.running.geometry c.args.node c.args.segment c.args.page (c.refusal.ensures.known c.in_default.is) in
+    let named = page_known w.running.geometry c.args.node c.args.segment c.args.page (c.page_refusal.ensures.known c.in_default.is) in
     let within : c.args.segment - 1 < segments.len = omega (arith, named.0, named.1, w.all_segments) in
     let old = c.index_mut-pages.result.now in
     let at = slice_get_read segments.items segments.len (c.args.segment - 1) old segments.ok.0 within c.index_mut-pages.ensures.value in
@@ -35,69 +46,32 @@ invariant_of-self-2 g c =
       room = whole.room;
     }
 
-pub returns-clause-follows : goal.returns-clause-follows
-returns-clause-follows g c =
-    let w = c.args.self.now in
-    let segments = w.segments in
-    let named = page_known w.running.geometry c.args.node c.args.segment c.args.page (c.refusal.ensures.known c.in_default.is) in
-    let within : c.args.segment - 1 < segments.len = omega (arith, named.0, named.1, w.all_segments) in
-    let old = c.index_mut-pages.result.now in
-    let at = slice_get_read segments.items segments.len (c.args.segment - 1) old segments.ok.0 within c.index_mut-pages.ensures.value in
-    page_follows_up g.D.Area w _ c.args.node c.args.segment (c.args.segment - 1) c.args.page c.page_step.result old c.page_step.new.pages (omega (arith, named.0)) at refl
-    (same_devices g.D.Area w.running c.page_step.new.self c.page_step.ensures.logs) c.refusal.result c.refusal.ensures.refused c.in_default.is c.page_step.ensures.follows
-
-pub returns-clause-faults : goal.returns-clause-faults
-returns-clause-faults g c =
-    let w = c.args.self.now in
-    let segments = w.segments in
-    let named = page_known w.running.geometry c.args.node c.args.segment c.args.page (c.refusal.ensures.known c.in_default.is) in
-    let within : c.args.segment - 1 < segments.len = omega (arith, named.0, named.1, w.all_segments) in
-    let old = c.index_mut-pages.result.now in
-    let at = slice_get_read segments.items segments.len (c.args.segment - 1) old segments.ok.0 within c.index_mut-pages.ensures.value in
-    page_counts g.D.Area w.running c.page_step.new.self segments.items (c.args.segment - 1) c.page_step.result old c.page_step.new.pages at c.page_step.ensures.logs c.page_step.ensures.device
-
 pub page_step-requires-clause-page : goal.page_step-requires-clause-page
 page_step-requires-clause-page g c =
     let w = c.args.self.now in
     let segments = w.segments in
-    let named = page_known w.running.geometry c.args.node c.args.segment c.args.page (c.refusal.ensures.known c.in_default.is) in
+    let named = page_known w.running.geometry c.args.node c.args.segment c.args.page (c.page_refusal.ensures.known c.in_default.is) in
     let within : c.args.segment - 1 < segments.len = omega (arith, named.0, named.1, w.all_segments) in
     let old = c.index_mut-pages.result.now in
     let at = slice_get_read segments.items segments.len (c.args.segment - 1) old segments.ok.0 within c.index_mut-pages.ensures.value in
     let count = w.pages (c.args.segment - 1) old at in
     omega (arith, named.2, count, old.writes.ok.0)
 
-pub returns-clause-geometry : goal.returns-clause-geometry
-returns-clause-geometry g c = c.page_step.ensures.logs.geometry
-
-pub returns-in-Some-clause-unknown : goal.returns-in-Some-clause-unknown
-returns-in-Some-clause-unknown g c = c.refusal.ensures.unknown c.in-Some.refusal c.in-Some.is
-
-pub returns-clause-unknown : goal.returns-clause-unknown
-returns-clause-unknown g c = refuses_known c.args.self.now.running.geometry (PageStep c.args.node c.args.segment c.args.page) c.page_step.result (c.refusal.ensures.known c.in_default.is) c.page_step.ensures.known
-
-pub returns-in-Some-clause-calls : goal.returns-in-Some-clause-calls
-returns-in-Some-clause-calls g c = λ h areas has. (
-  areas,
-  (has.0, record { count = has.1.count; logs = has.1.logs; segments = has.1.segments }),
-  subst (λ (b : Bool). CallsWhere g.D.Area b h (PageStep c.args.node c.args.segment c.args.page) areas areas) (sym (common_quiet c.in-Some.refusal (c.refusal.ensures.names c.in-Some.refusal c.in-Some.is))) refl,
-)
-
-pub returns-clause-calls : goal.returns-clause-calls
-returns-clause-calls g c =
+pub returns : goal.returns
+returns g c =
     let w = c.args.self.now in
     let segments = w.segments in
-    let named = page_known w.running.geometry c.args.node c.args.segment c.args.page (c.refusal.ensures.known c.in_default.is) in
+    let named = page_known w.running.geometry c.args.node c.args.segment c.args.page (c.page_refusal.ensures.known c.in_default.is) in
     let within : c.args.segment - 1 < segments.len = omega (arith, named.0, named.1, w.all_segments) in
     let old = c.index_mut-pages.result.now in
     let at = slice_get_read segments.items segments.len (c.args.segment - 1) old segments.ok.0 within c.index_mut-pages.ensures.value in
-    page_calls g.D.Area w _ c.args.node c.args.segment c.args.page old c.page_step.new.pages c.page_step.result at refl c.page_step.ensures.logs c.page_step.ensures.device
-
-pub returns-in-Some-clause-names : goal.returns-in-Some-clause-names
-returns-in-Some-clause-names g c = common_may (PageStep c.args.node c.args.segment c.args.page) c.in-Some.refusal refl (c.refusal.ensures.names c.in-Some.refusal c.in-Some.is)
-
-pub returns-clause-names : goal.returns-clause-names
-returns-clause-names g c = c.page_step.ensures.names
-
-pub returns-in-Some-clause-faults : goal.returns-in-Some-clause-faults
-returns-in-Some-clause-faults g c = no_faults _ _ _ (common_quiet c.in-Some.refusal (c.refusal.ensures.names c.in-Some.refusal c.in-Some.is)) refl
+    record {
+      follows =
+          page_follows_up g.D.Area w _ c.args.node c.args.segment (c.args.segment - 1) c.args.page c.page_step.result old c.page_step.new.pages (omega (arith, named.0)) at refl
+          (same_devices g.D.Area w.running c.page_step.new.self c.page_step.ensures.logs) c.page_refusal.result c.page_refusal.ensures.refused c.in_default.is c.page_step.ensures.follows;
+      faults = page_counts g.D.Area w.running c.page_step.new.self segments.items (c.args.segment - 1) c.page_step.result old c.page_step.new.pages at c.page_step.ensures.logs c.page_step.ensures.device;
+      geometry = c.page_step.ensures.logs.geometry;
+      unknown = refuses_known c.args.self.now.running.geometry (PageStep c.args.node c.args.segment c.args.page) c.page_step.result (c.page_refusal.ensures.known c.in_default.is) c.page_step.ensures.known;
+      calls = page_calls g.D.Area w _ c.args.node c.args.segment c.args.page old c.page_step.new.pages c.page_step.result at refl c.page_step.ensures.logs c.page_step.ensures.device;
+      names = c.page_step.ensures.names;
+    }

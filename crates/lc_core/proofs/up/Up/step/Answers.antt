@@ -1,58 +1,49 @@
-use Rattle.std.proofs.Common.{refl, sym, subst}
-use Rattle.std.proofs.lemmas.Result.{IfOk-weaker}
+use Rattle.std.proofs.Common.{sym, ap, subst, ◌∙◌}
+use Rattle.std.specs.Prelude.{Ok}
 use Rattle.lc_model.specs.declared.event.Event.{Event}
-use Rattle.lc_core.specs.Calls.{CallsArea}
-use Rattle.lc_core.specs.declared.world_phase.WorldPhase.TheVariants.{Up}
-use Rattle.lc_core.proofs.Failures.{up_counts, up_still_failed}
-use Rattle.lc_journal.proofs.Logged.{err_then}
-use Rattle.lc_core.proofs.Recoveries.{runs_up}
-use Rattle.lc_core.proofs.Devices.{steps_devices, up_whole}
-use Rattle.lc_events.proofs.Refusing.{if_ok_both}
-use Rattle.lc_core.proofs.Refusing.{on_err_both}
-use Rattle.lc_core.proofs.OneArea.{step_calls, step_keeps}
-use Rattle.lc_core.proofs.Ordinary.{plain_of}
+use Rattle.lc_model.specs.declared.event.Event.TheVariants.{Begin, Write, Abort, Close, FlushStep, Leave, Arrive, Trim, PageStep, ResetStep}
+use Rattle.lc_core.specs.Layers.{TriesUp}
+use Rattle.lc_core.proofs.Layering.{steps_tries}
 use Rattle.lc_core.proofs.up.Up.step.Goals as goal
 
-pub returns-clause-follows : goal.returns-clause-follows
-returns-clause-follows g c = IfOk-weaker c.step.result _ _
-    (λ reply both m s x h. runs_up g.D.Area m s x c.args.self.now _ c.args.event.now reply c.is_writing-writing.result (plain_of c.args.event.now c.requires.up c.in_default.not-PageStep) refl both.1.devices both.0 (c.is_writing-writing.ensures m x h.pages) h)
-    (if_ok_both c.step.result _ _ c.step.ensures.follows c.step.ensures.faults)
+pub returns-in-Begin : goal.returns-in-Begin
+returns-in-Begin g c = subst (λ (e : Event). TriesUp g.D.Area c.args.self.now e (Ok c.begin.result) c.begin.new.self) (sym (c.in-Begin.is ∙ ap (λ l. Begin c.in-Begin.node c.in-Begin.thread l c.in-Begin.reading) (sym c.as_slice.ensures) ∙ ap (λ l. Begin c.in-Begin.node c.in-Begin.thread c.as_slice.result.now l) (sym c.as_slice-in-Begin.ensures))) (steps_tries g.D.Area c.args.self.now (Begin c.in-Begin.node c.in-Begin.thread c.as_slice.result.now c.as_slice-in-Begin.result.now) c.begin.result c.begin.new.self c.begin.ensures)
 
-pub returns-clause-err : goal.returns-clause-err
-returns-clause-err g c = err_then c.step.result (on_err_both c.step.result _ _ c.step.ensures.err c.step.ensures.no_fault) (λ both m s x h. record {
-  running = both.0 m s x h.running;
-  pages = h.pages;
-  failed = h.failed;
-})
+pub returns-in-SetRange : goal.returns-in-SetRange
+returns-in-SetRange g c = subst (λ (e : Event). TriesUp g.D.Area c.args.self.now e c.set_range.result c.set_range.new.self) (sym c.in-SetRange.is) c.set_range.ensures
 
-pub returns-clause-faults : goal.returns-clause-faults
-returns-clause-faults g c = IfOk-weaker c.step.result _ _
-    (λ reply counts. up_counts g.D.Area c.args.self.now c.args.event.now reply c.step.new.self counts)
-    c.step.ensures.faults
+pub returns-in-Write : goal.returns-in-Write
+returns-in-Write g c = subst (λ (e : Event). TriesUp g.D.Area c.args.self.now e (Ok c.write.result) c.write.new.self) (sym (c.in-Write.is ∙ ap (λ l. Write c.in-Write.node c.in-Write.thread c.in-Write.segment c.in-Write.offset l) (sym c.as_slice-in-Write.ensures))) (steps_tries g.D.Area c.args.self.now (Write c.in-Write.node c.in-Write.thread c.in-Write.segment c.in-Write.offset c.as_slice-in-Write.result.now) c.write.result c.write.new.self c.write.ensures)
 
-pub returns-clause-no_fault : goal.returns-clause-no_fault
-returns-clause-no_fault g c = err_then c.step.result c.step.ensures.no_fault (up_still_failed g.D.Area c.args.self.now c.step.new.self)
+pub returns-in-Read : goal.returns-in-Read
+returns-in-Read g c = subst (λ (e : Event). TriesUp g.D.Area c.args.self.now e c.read.result c.read.new.self) (sym c.in-Read.is) c.read.ensures
 
-pub invariant_of-self : goal.invariant_of-self
-invariant_of-self g c =
-    let w = up_whole g.D.Area c.args.self.now c.step.new.self (steps_devices g.D.Area c.args.self.now.running c.step.new.self c.args.event.now c.step.result c.step.ensures.faults c.step.ensures.no_fault) in
-    record { all_segments = w.all_segments; logs = w.logs; lengths = w.lengths; pages = w.pages; none = w.none; room = w.room }
+pub returns-in-Abort : goal.returns-in-Abort
+returns-in-Abort g c = subst (λ (e : Event). TriesUp g.D.Area c.args.self.now e (Ok c.abort.result) c.abort.new.self) (sym c.in-Abort.is) (steps_tries g.D.Area c.args.self.now (Abort c.in-Abort.node c.in-Abort.thread) c.abort.result c.abort.new.self c.abort.ensures)
 
-pub step-requires : goal.step-requires
-step-requires g c = record { plain = plain_of c.args.event.now c.requires.up c.in_default.not-PageStep }
+pub returns-in-Reserve : goal.returns-in-Reserve
+returns-in-Reserve g c = subst (λ (e : Event). TriesUp g.D.Area c.args.self.now e c.reserve.result c.reserve.new.self) (sym c.in-Reserve.is) c.reserve.ensures
 
-pub returns-clause-geometry : goal.returns-clause-geometry
-returns-clause-geometry g c = (steps_devices g.D.Area c.args.self.now.running c.step.new.self c.args.event.now c.step.result c.step.ensures.faults c.step.ensures.no_fault).geometry
+pub returns-in-Close : goal.returns-in-Close
+returns-in-Close g c = subst (λ (e : Event). TriesUp g.D.Area c.args.self.now e (Ok c.close.result) c.close.new.self) (sym c.in-Close.is) (steps_tries g.D.Area c.args.self.now (Close c.in-Close.node c.in-Close.thread) c.close.result c.close.new.self c.close.ensures)
 
-pub returns-clause-calls : goal.returns-clause-calls
-returns-clause-calls g c = step_calls g.D.Area c.args.self.now _ c.args.event.now (plain_of c.args.event.now c.requires.up c.in_default.not-PageStep) c.step.result refl c.step.ensures.faults c.step.ensures.no_fault
+pub returns-in-FlushStep : goal.returns-in-FlushStep
+returns-in-FlushStep g c = subst (λ (e : Event). TriesUp g.D.Area c.args.self.now e (Ok c.flush_step.result) c.flush_step.new.self) (sym c.in-FlushStep.is) (steps_tries g.D.Area c.args.self.now (FlushStep c.in-FlushStep.node) c.flush_step.result c.flush_step.new.self c.flush_step.ensures)
 
-pub returns-clause-kept : goal.returns-clause-kept
-returns-clause-kept g c = step_keeps g.D.Area c.args.self.now _ c.step.result refl c.step.ensures.no_fault
+pub returns-in-Leave : goal.returns-in-Leave
+returns-in-Leave g c = subst (λ (e : Event). TriesUp g.D.Area c.args.self.now e (Ok c.leave.result) c.leave.new.self) (sym c.in-Leave.is) (steps_tries g.D.Area c.args.self.now (Leave c.in-Leave.node c.in-Leave.segment) c.leave.result c.leave.new.self c.leave.ensures)
 
-pub returns-clause-names : goal.returns-clause-names
-returns-clause-names g c = c.step.ensures.names
+pub returns-in-Arrive : goal.returns-in-Arrive
+returns-in-Arrive g c = subst (λ (e : Event). TriesUp g.D.Area c.args.self.now e (Ok c.arrive.result) c.arrive.new.self) (sym c.in-Arrive.is) (steps_tries g.D.Area c.args.self.now (Arrive c.in-Arrive.node c.in-Arrive.segment) c.arrive.result c.arrive.new.self c.arrive.ensures)
 
-pub returns-in-PageStep-clause-calls : goal.returns-in-PageStep-clause-calls
-returns-in-PageStep-clause-calls g c =
-    subst (λ (e : Event). CallsArea g.D.Area (Up c.args.self.now) e c.page_step.result (Up c.page_step.new.self)) (sym c.in-PageStep.is) c.page_step.ensures.calls
+pub returns-in-Deliver : goal.returns-in-Deliver
+returns-in-Deliver g c = subst (λ (e : Event). TriesUp g.D.Area c.args.self.now e c.deliver.result c.deliver.new.self) (sym c.in-Deliver.is) c.deliver.ensures
+
+pub returns-in-Trim : goal.returns-in-Trim
+returns-in-Trim g c = subst (λ (e : Event). TriesUp g.D.Area c.args.self.now e (Ok c.trim.result) c.trim.new.self) (sym c.in-Trim.is) (steps_tries g.D.Area c.args.self.now (Trim c.in-Trim.node) c.trim.result c.trim.new.self c.trim.ensures)
+
+pub returns-in-PageStep : goal.returns-in-PageStep
+returns-in-PageStep g c = subst (λ (e : Event). TriesUp g.D.Area c.args.self.now e (Ok c.page_step.result) c.page_step.new.self) (sym c.in-PageStep.is) (steps_tries g.D.Area c.args.self.now (PageStep c.in-PageStep.node c.in-PageStep.segment c.in-PageStep.page) c.page_step.result c.page_step.new.self c.page_step.ensures)
+
+pub returns-in-ResetStep : goal.returns-in-ResetStep
+returns-in-ResetStep g c = subst (λ (e : Event). TriesUp g.D.Area c.args.self.now e (Ok c.reset_step.result) c.reset_step.new.self) (sym c.in-ResetStep.is) (steps_tries g.D.Area c.args.self.now (ResetStep c.in-ResetStep.node) c.reset_step.result c.reset_step.new.self c.reset_step.ensures)

@@ -12,7 +12,7 @@ pub index-requires-2 : goal.index-requires-2
 index-requires-2 g c =
     let w = c.in-Up.up.running in
     let node = c.index.result.now in
-    let known = page_known w.geometry c.args.node c.args.segment c.args.page (sym c.if-not-is_page_of.ensures) in
+    let known = page_known w.geometry c.args.node c.args.segment c.args.page (sym c.if-not-is_page_of.ensures.page) in
     let within : c.args.node < w.nodes.len = omega (arith, w.all_nodes, known.0) in
     let at = slice_get_read w.nodes.items w.nodes.len c.args.node node w.nodes.ok.0 within c.index.ensures in
     omega (arith, (w.whole c.args.node node at).slots, known.1, known.2)
@@ -22,7 +22,7 @@ returns-clause-lives g c = λ shape life fits.
     let w = c.in-Up.up.running in
     let node = c.index.result.now in
     let slot = c.index-2.result.now in
-    let known = page_known w.geometry c.args.node c.args.segment c.args.page (sym c.if-not-is_page_of.ensures) in
+    let known = page_known w.geometry c.args.node c.args.segment c.args.page (sym c.if-not-is_page_of.ensures.page) in
     let m = life.setting in
     let s = life.state in
     let x = life.numbers in
@@ -53,7 +53,7 @@ returns-clause-lends g c =
     let w = c.in-Up.up.running in
     let node = c.index.result.now in
     let slot = c.index-2.result.now in
-    let known = page_known w.geometry c.args.node c.args.segment c.args.page (sym c.if-not-is_page_of.ensures) in
+    let known = page_known w.geometry c.args.node c.args.segment c.args.page (sym c.if-not-is_page_of.ensures.page) in
     let within : c.args.node < w.nodes.len = omega (arith, w.all_nodes, known.0) in
     let at = slice_get_read w.nodes.items w.nodes.len c.args.node node w.nodes.ok.0 within c.index.ensures in
     let slots = node.desk.here.slots in

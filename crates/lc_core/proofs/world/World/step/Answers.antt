@@ -18,9 +18,9 @@ use Rattle.lc_events.proofs.Recovers.{IfOk-any}
 use Rattle.lc_core.proofs.Recovers.{down_refuses, stop_asks, up_asks}
 use Rattle.lc_core.specs.declared.world_phase.WorldPhase.TheVariants.{Up}
 use Rattle.lc_core.proofs.Recoveries.{else_works, up_follows, up_still}
+use Rattle.lc_core.proofs.Layering.{tries_geometry}
 use Rattle.lc_core.proofs.Living.{others_told, same_still_lives, up_still_lives, up_told}
 use Rattle.lc_core.proofs.CallsTold.{refused_free}
-use Rattle.lc_events.proofs.Refusing.{if_ok_both}
 use Rattle.lc_core.proofs.Refusing.{on_err_both}
 use Rattle.lc_core.proofs.StaysHonest.{keeps_honest, stays_honest}
 use Rattle.lc_core.proofs.Stopped.{same_stop}
@@ -35,8 +35,8 @@ step-requires g c = record { up = else_works c.args.event.now c.in_default.not-R
 
 pub returns-in-Up-clause-follows : goal.returns-in-Up-clause-follows
 returns-in-Up-clause-follows g c = IfOk-weaker c.step.result _ _
-    (λ reply both. up_follows g.D.Area c.args.self.now.phase c.in-Up.up c.step.new.self c.args.event.now reply c.in-Up.is both.0 (stays_honest g.D.Area c.in-Up.up c.step.new.self c.args.event.now reply both.1))
-    (if_ok_both c.step.result _ _ c.step.ensures.follows c.step.ensures.calls)
+    (λ reply steps. up_follows g.D.Area c.args.self.now.phase c.in-Up.up c.step.new.self c.args.event.now reply c.in-Up.is steps.follows (stays_honest g.D.Area c.in-Up.up c.step.new.self c.args.event.now reply steps.calls))
+    c.step.ensures.steps
 
 pub returns-in-RecoverStep-clause-asks : goal.returns-in-RecoverStep-clause-asks
 returns-in-RecoverStep-clause-asks g c = err_then c.recover_step.result c.recover_step.ensures.memory (λ wants.
@@ -52,8 +52,8 @@ returns-in-Up-clause-err g c = err_then c.step.result (on_err_both c.step.result
 
 pub returns-in-Up-clause-faults : goal.returns-in-Up-clause-faults
 returns-in-Up-clause-faults g c = IfOk-weaker c.step.result _ _
-    (λ reply counts. subst (λ (p : WorldPhase g.row.D.Denot g.D.Area). CountsPhase g.D.Area p reply (Up c.step.new.self)) (sym c.in-Up.is) counts)
-    c.step.ensures.faults
+    (λ reply steps. subst (λ (p : WorldPhase g.row.D.Denot g.D.Area). CountsPhase g.D.Area p reply (Up c.step.new.self)) (sym c.in-Up.is) steps.faults)
+    c.step.ensures.steps
 
 pub returns-in-Up-clause-no_fault : goal.returns-in-Up-clause-no_fault
 returns-in-Up-clause-no_fault g c = err_then c.step.result c.step.ensures.no_fault (λ same. same ∙ ap (phase_failures g.D.Area) (sym c.in-Up.is))
@@ -94,11 +94,11 @@ pub returns-in-Stop-clause-unknown : goal.returns-in-Stop-clause-unknown
 returns-in-Stop-clause-unknown g c = stops_outside g.D.Area c.args.self.now.phase c.args.event.now c.in-Stop.choices c.stop.result c.in-Stop.is c.stop.ensures.answer
 
 pub returns-in-Up-clause-geometry : goal.returns-in-Up-clause-geometry
-returns-in-Up-clause-geometry g c = up_geometry g.D.Area c.args.self.now.phase c.in-Up.up c.step.new.self c.in-Up.is c.step.ensures.geometry
+returns-in-Up-clause-geometry g c = up_geometry g.D.Area c.args.self.now.phase c.in-Up.up c.step.new.self c.in-Up.is (tries_geometry g.D.Area c.in-Up.up c.step.new.self c.args.event.now c.step.result c.step.ensures)
 
 pub returns-in-Up-clause-unknown : goal.returns-in-Up-clause-unknown
 returns-in-Up-clause-unknown g c = IfOk-weaker c.step.result _ _
-    (λ reply refuses. up_outside g.D.Area c.args.self.now.phase c.in-Up.up c.args.event.now reply c.in-Up.is refuses) c.step.ensures.unknown
+    (λ reply steps. up_outside g.D.Area c.args.self.now.phase c.in-Up.up c.args.event.now reply c.in-Up.is steps.unknown) c.step.ensures.steps
 
 pub returns-in_default-phase-clause-unknown : goal.returns-in_default-phase-clause-unknown
 returns-in_default-phase-clause-unknown g c = down_outside g.D.Area c.args.self.now.phase c.args.event.now _ c.in_default-phase.not-Up refl
@@ -112,7 +112,7 @@ returns-in-Stop-clause-calls g c = λ no_stop. absurd (no_stop c.in-Stop.choices
 
 pub returns-in-Up-clause-calls : goal.returns-in-Up-clause-calls
 returns-in-Up-clause-calls g c = IfOk-weaker c.step.result _ _
-    (λ reply calls no_stop. up_calls g.D.Area c.args.self.now.phase c.in-Up.up c.step.new.self c.args.event.now reply c.in-Up.is calls) c.step.ensures.calls
+    (λ reply steps no_stop. up_calls g.D.Area c.args.self.now.phase c.in-Up.up c.step.new.self c.args.event.now reply c.in-Up.is steps.calls) c.step.ensures.steps
 
 pub returns-in_default-phase-clause-calls : goal.returns-in_default-phase-clause-calls
 returns-in_default-phase-clause-calls g c = λ no_stop. calls_none g.D.Area c.args.self.now.phase c.args.event.now (Refused IsDown) (λ h. refused_free h c.args.event.now IsDown refl)
@@ -130,8 +130,8 @@ returns-in-Stop-clause-anyhow g c = λ no_stop. absurd (no_stop c.in-Stop.choice
 
 pub returns-in-Up-clause-anyhow : goal.returns-in-Up-clause-anyhow
 returns-in-Up-clause-anyhow g c = IfOk-weaker c.step.result _ _
-    (λ reply follows no_stop. up_told g.D.Area c.args.self.now.phase c.in-Up.up c.step.new.self c.args.event.now reply c.in-Up.is c.in_default.not-RecoverStep follows)
-    c.step.ensures.follows
+    (λ reply steps no_stop. up_told g.D.Area c.args.self.now.phase c.in-Up.up c.step.new.self c.args.event.now reply c.in-Up.is c.in_default.not-RecoverStep steps.follows)
+    c.step.ensures.steps
 
 pub returns-in_default-phase-clause-anyhow : goal.returns-in_default-phase-clause-anyhow
 returns-in_default-phase-clause-anyhow g c = λ no_stop. others_told g.D.Area c.args.self.now.phase c.args.event.now _ _ c.in_default-phase.not-Up c.in_default.not-RecoverStep
@@ -149,8 +149,8 @@ returns-in-RecoverStep-clause-names g c = IfOk-weaker c.recover_step.result _ _
 pub returns-in-Stop-clause-names : goal.returns-in-Stop-clause-names
 returns-in-Stop-clause-names g c = answers_may c.args.event.now c.stop.result (ap (λ (e : Event). may_answer e c.stop.result) c.in-Stop.is ∙ ap may_stop c.stop.ensures.answer)
 
-pub returns-in-Up-clause-names : goal.returns-in-Up-clause-names
-returns-in-Up-clause-names g c = c.step.ensures.names
-
 pub returns-in_default-phase-clause-names : goal.returns-in_default-phase-clause-names
 returns-in_default-phase-clause-names g c = common_may c.args.event.now IsDown (works_acts c.args.event.now (else_works c.args.event.now c.in_default.not-RecoverStep c.in_default-event.not-Stop)) refl
+
+pub returns-in-Up-clause-names : goal.returns-in-Up-clause-names
+returns-in-Up-clause-names g c = IfOk-weaker c.step.result _ _ (λ reply steps. steps.names) c.step.ensures.steps

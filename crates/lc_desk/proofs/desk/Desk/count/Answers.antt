@@ -1,9 +1,8 @@
 use Rattle.std.proofs.Common.{◌≡◌, List, Some, None, refl, sym, ap, subst, ◌∙◌}
-use Rattle.std.proofs.lemmas.Option.{slice_get_read}
+use Rattle.std.proofs.lemmas.Option.{slice_get_read, same_Some as same_some}
 use Rattle.lc_range.specs.RangeSet.{IsCanonical}
 use Rattle.lc_range.specs.declared.range.Range.{Range}
 use Rattle.lc_desk.specs.Counts.{CountsAll}
-use Rattle.lc_settled.specs.Places.{same_some}
 use Rattle.lc_desk.specs.Seat.{Seat, reserved_of, set_of}
 use Rattle.lc_desk.proofs.CountedDesk.{few_counted, in_place_counted, runs_counted, short_counted}
 use Rattle.lc_desk.proofs.Seating.{none_reserved, reserved_seat}

@@ -1,9 +1,8 @@
 use Rattle.std.proofs.Common.{◌≡◌, List, None, Some, length, sym, ap, subst, ◌∙◌}
-use Rattle.std.proofs.lemmas.Option.{slice_get_read}
+use Rattle.std.proofs.lemmas.Option.{slice_get_read, same_Some as same_some}
 use Rattle.lc_record.specs.Content.{segment_of}
 use Rattle.lc_model.specs.History.{value}
 use Rattle.lc_tx.proofs.HoldsLemmas.{locked_holds}
-use Rattle.lc_settled.specs.Places.{same_some}
 use Rattle.lc_desk.specs.Seat.{Seat, Open, open_of}
 use Rattle.lc_desk.specs.Seats.{AllRun}
 use Rattle.lc_desk.proofs.Seating.{not_open, open_seat, open_holder, open_holds, set_same}

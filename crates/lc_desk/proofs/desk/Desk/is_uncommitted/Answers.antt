@@ -1,8 +1,7 @@
 use Rattle.std.proofs.Common.{◌≡◌, Some, inl, inr, refl, sym, ap, subst, ◌∙◌, arith, true≢false}
 use Rattle.std.specs.Prelude.{slice_get}
 use Rattle.std.proofs.lemmas.Bool.{cases_lt}
-use Rattle.std.proofs.lemmas.Option.{slice_get-get_or, slice_get_within}
-use Rattle.lc_settled.specs.Places.{same_some}
+use Rattle.std.proofs.lemmas.Option.{slice_get-get_or, slice_get_within, same_Some as same_some}
 use Rattle.lc_desk.specs.Uncommitted.{SetsPage}
 use Rattle.lc_desk.specs.Seat.{Seat}
 use Rattle.lc_desk.proofs.desk.Desk.is_uncommitted.Goals as goal

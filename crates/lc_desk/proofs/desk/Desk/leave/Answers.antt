@@ -1,12 +1,11 @@
 use Rattle.std.proofs.Common.{◌-◌, not, ◌<◌, sym, ap, refl, subst, ◌∙◌, ◌≡◌, arith}
-use Rattle.std.proofs.lemmas.Option.{slice_get_read}
+use Rattle.std.proofs.lemmas.Option.{slice_get_read, same_Some as same_some}
 use Rattle.std.proofs.lemmas.Result.{IfOk-weaker}
 use Rattle.std.specs.Prelude.{◌↔◌, IsOk}
 use Rattle.lc_tx.specs.Holders.{is_free}
 use Rattle.lc_record.proofs.ListLemmas.{slice_get-map_some as get-map}
 use Rattle.lc_desk.specs.Here.{beside}
 use Rattle.lc_desk.specs.Leaves.{MayLeave}
-use Rattle.lc_settled.specs.Places.{same_some}
 use Rattle.lc_desk.specs.declared.segment_copy.SegmentCopy.{SegmentCopy}
 use Rattle.lc_desk.proofs.Names.{err_at, of_leave}
 use Rattle.lc_desk.proofs.Left.{LeaveAnswers, leaves, may_leave, runs_left, same_left}

@@ -1,7 +1,7 @@
 use Rattle.std.proofs.Common.{◌≡◌, ◌-◌, None, Some, length, refl, sym, ap, ◌∙◌, arith}
 use Rattle.std.specs.Option.{option_copied}
+use Rattle.std.proofs.lemmas.Option.{same_Some as same_some}
 use Rattle.lc_token.specs.declared.token.Token.{Token}
-use Rattle.lc_settled.specs.Places.{same_some}
 use Rattle.lc_desk.proofs.Away.{in_place_kept, runs_kept, short_stays, slot_at}
 use Rattle.lc_desk.proofs.Noted.{notes_nothing, notes_written, runs_noted, written_number}
 use Rattle.lc_desk.proofs.Shortness.{in_place_moved, short_moved}

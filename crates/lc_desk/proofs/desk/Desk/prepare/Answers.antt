@@ -1,6 +1,6 @@
 use Rattle.std.proofs.Common.{◌≡◌, ◌<◌, ◌≤◌, ◌+◌, None, Some, length, sym, ap, subst, ◌∙◌, arith}
 use Rattle.std.specs.Prelude.{Ok, vec_capacity}
-use Rattle.std.proofs.lemmas.Option.{slice_get_read}
+use Rattle.std.proofs.lemmas.Option.{slice_get_read, same_Some as same_some}
 use Rattle.lc_record.specs.Record.{record_len, IsRecord}
 use Rattle.lc_record.proofs.ListLemmas.{OnErr_from as on_err}
 use Rattle.lc_model.specs.declared.reply.Reply.TheVariants.{Reserved}
@@ -8,7 +8,6 @@ use Rattle.lc_model.proofs.Rows.{reserve-no_turn}
 use Rattle.lc_tx.specs.Prepared.{final_record}
 use Rattle.lc_tx.specs.declared.tx.Tx.{Tx}
 use Rattle.lc_desk.specs.Here.{the_images}
-use Rattle.lc_settled.specs.Places.{same_some}
 use Rattle.lc_settled.specs.Settled.{reserve_open}
 use Rattle.lc_desk.specs.Seat.{Open}
 use Rattle.lc_desk.proofs.Dropping.{no_turn, runs_same, desk_seen}

@@ -1,8 +1,8 @@
 use Rattle.std.proofs.Common.{◌≡◌, ◌+◌, ◌<◌, ◌∙◌, ap, sym, arith, length, min, subst}
 use Rattle.std.specs.Prelude.{MatchOption, Option, IsSomeAnd}
 use Rattle.std.specs.Int.{div_ceil}
+use Rattle.std.proofs.lemmas.Option.{same_Some as same_some}
 use Rattle.lc_token.specs.declared.token.Token.{Token}
-use Rattle.lc_settled.specs.Places.{same_some}
 use Rattle.lc_desk.specs.Counts.{TouchesSlot}
 use Rattle.lc_desk.specs.declared.segment_copy.SegmentCopy.{SegmentCopy}
 use Rattle.lc_desk.proofs.Touching.{touching_step, touching_end}

@@ -1,12 +1,11 @@
 use Rattle.std.proofs.Common.{Option, ◌≡◌, ◌-◌, ◌<◌, ◌≤◌, Some, None, refl, sym, ap, ◌∙◌, true≢false, subst, arith}
-use Rattle.std.proofs.lemmas.Option.{slice_get_read}
+use Rattle.std.proofs.lemmas.Option.{slice_get_read, same_Some as same_some}
 use Rattle.std.specs.Prelude.{IsSome, vec_len, slice_get}
 use Rattle.lc_desk.specs.declared.here.Here.{Here}
 use Rattle.lc_events.proofs.Shortness.{same_len}
 use Rattle.lc_token.specs.declared.fault.TokenFault.{TokenFault}
 use Rattle.lc_token.specs.declared.token.Token.{Token}
 use Rattle.lc_desk.specs.Places.{get_set_same}
-use Rattle.lc_settled.specs.Places.{same_some}
 use Rattle.lc_desk.specs.Leaves.{HasToken, with_token}
 use Rattle.lc_events.specs.NodeState.{SeesStanding}
 use Rattle.lc_desk.specs.declared.desk.Desk.{Desk}

@@ -2,9 +2,9 @@ use Rattle.std.proofs.Common.{refl, sym, ap, subst}
 use Rattle.lc_model.specs.declared.event.Event.TheVariants.{Close}
 use Rattle.lc_model.specs.declared.reply.Reply.{Reply}
 use Rattle.std.specs.Prelude.{Ok}
+use Rattle.std.proofs.lemmas.Option.{same_Some as same_some}
 use Rattle.lc_events.specs.Answered.{closed_at}
 use Rattle.lc_events.specs.NodeSteps.{StepsNode}
-use Rattle.lc_settled.specs.Places.{same_some}
 use Rattle.lc_events.specs.declared.placement.Placement.TheVariants.{Record as HasRecord}
 use Rattle.lc_events.proofs.Names.{answers_may}
 use Rattle.lc_events.proofs.NodeSteps.{closed_steps}

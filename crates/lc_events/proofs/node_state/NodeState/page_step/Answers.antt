@@ -1,11 +1,10 @@
 use Rattle.std.proofs.Common.{◌≡◌, ◌||◌, Bool, Option, None, Some, refl, sym, ap, subst, ◌∙◌, true≢false}
 use Rattle.std.specs.Prelude.{IsSome}
-use Rattle.std.proofs.lemmas.Option.{slice_get_read}
+use Rattle.std.proofs.lemmas.Option.{slice_get_read, same_Some as same_some}
 use Rattle.lc_token.specs.declared.token.Token.{Token}
 use Rattle.lc_model.specs.declared.refusal.Refusal.TheVariants.{NotHere}
 use Rattle.lc_model.specs.declared.reply.Reply.TheVariants.{Refused}
 use Rattle.lc_record.proofs.ListLemmas.{some_from_is_some as some_token}
-use Rattle.lc_settled.specs.Places.{same_some}
 use Rattle.lc_desk.specs.declared.page_state.PageState.{PageState}
 use Rattle.lc_desk.specs.declared.segment_copy.SegmentCopy.{SegmentCopy}
 use Rattle.lc_desk.proofs.Away.{slot_at}

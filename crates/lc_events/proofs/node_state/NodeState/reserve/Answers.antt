@@ -1,4 +1,5 @@
 use Rattle.std.proofs.Common.{◌≡◌, ℕ, length, Some, refl, sym, ap, subst, ◌∙◌}
+use Rattle.std.proofs.lemmas.Option.{same_Some as same_some}
 use Rattle.lc_model.specs.Machine.{dropped, appended}
 use Rattle.lc_model.specs.State.{running_of, is_by}
 use Rattle.lc_model.specs.declared.event.Event.TheVariants.{Reserve}
@@ -8,7 +9,6 @@ use Rattle.lc_model.proofs.Lists.{found-passes}
 use Rattle.lc_model.proofs.Rows.{reserve-done}
 use Rattle.lc_record.proofs.ListLemmas.{OnErr_from as on_err}
 use Rattle.lc_settled.specs.Numbers.{next_record}
-use Rattle.lc_settled.specs.Places.{same_some}
 use Rattle.lc_desk.specs.Prepares.{Ends, GetsPlace, Keeps}
 use Rattle.lc_settled.specs.Settled.{reserve_open}
 use Rattle.lc_desk.specs.declared.ending.Ending.{Ending}

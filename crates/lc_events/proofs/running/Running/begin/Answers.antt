@@ -1,37 +1,43 @@
-use Rattle.std.proofs.Common.{refl}
+use Rattle.std.proofs.Common.{refl, arith}
 use Rattle.std.specs.Prelude.{Ok, Result}
 use Rattle.std.specs.declared.alloc.AllocError.{AllocError}
 use Rattle.lc_model.specs.declared.event.Event.TheVariants.{Begin}
 use Rattle.lc_model.specs.declared.reply.Reply.{Reply}
+use Rattle.lc_events.proofs.AtOnce.{node_within}
 use Rattle.lc_events.proofs.Layering.{node_tries, refused_running}
 use Rattle.lc_events.proofs.NodeSteps.{of_there, whole_there}
 use Rattle.lc_events.proofs.running.Running.begin.Goals as goal
 
 pub returns-in-Some : goal.returns-in-Some
-returns-in-Some g c =
-    let w = c.args.self.now in
-    let refusal = c.in-Some.refusal in
-    refused_running g.D.Area w (Begin c.args.node c.args.thread c.args.segments.now c.args.reading.now) c.begin_refusal.result c.begin_refusal.ensures.refused refusal c.in-Some.is refl (c.begin_refusal.ensures.names refusal c.in-Some.is) (c.begin_refusal.ensures.unknown refusal c.in-Some.is)
+returns-in-Some g c = refused_running g.D.Area c.args.self.now (Begin c.args.node c.args.thread c.args.segments.now c.args.reading.now) c.refusal.result (c.refusal.ensures (Begin c.args.node c.args.thread c.args.segments.now c.args.reading.now) c.knows_begin-known.ensures refl) c.in-Some.refusal c.in-Some.is refl
 
 pub begin-requires : goal.begin-requires
-begin-requires g c = record {
-  seat = (of_there g.D.Area c.args.self.now (Begin c.args.node c.args.thread c.args.segments.now c.args.reading.now) refl (c.begin_refusal.ensures.known c.in_default.is) (c.begin_refusal.ensures.running c.in_default.is) c.args.node refl c.index_mut.result.now c.index_mut.ensures.value).1;
-}
+begin-requires g c =
+    let first = c.refusal.ensures (Begin c.args.node c.args.thread c.args.segments.now c.args.reading.now) c.knows_begin-known.ensures refl in
+    record { seat = (of_there g.D.Area c.args.self.now (Begin c.args.node c.args.thread c.args.segments.now c.args.reading.now) refl (first.known c.in_default.is) (first.running c.in_default.is) c.args.node refl c.index_mut.result.now c.index_mut.ensures.value).1 }
 
 pub invariant_of-self : goal.invariant_of-self
 invariant_of-self g c =
     let w = c.args.self.now in
+    let first = c.refusal.ensures (Begin c.args.node c.args.thread c.args.segments.now c.args.reading.now) c.knows_begin-known.ensures refl in
     let r : Result Reply AllocError = Ok c.begin.result in
     record {
       few = w.few;
       all_nodes = w.all_nodes;
       all_places = w.all_places;
       named = w.named;
-      whole = whole_there g.D.Area w (Begin c.args.node c.args.thread c.args.segments.now c.args.reading.now) refl (c.begin_refusal.ensures.known c.in_default.is) (c.begin_refusal.ensures.running c.in_default.is) c.args.node refl c.index_mut.result.now c.index_mut.ensures.value r c.begin.new.self (c.begin.ensures c.args.node);
+      whole = whole_there g.D.Area w (Begin c.args.node c.args.thread c.args.segments.now c.args.reading.now) refl (first.known c.in_default.is) (first.running c.in_default.is) c.args.node refl c.index_mut.result.now c.index_mut.ensures.value r c.begin.new.self
+          (c.begin.ensures c.args.node);
     }
 
 pub returns : goal.returns
 returns g c =
+    let first = c.refusal.ensures (Begin c.args.node c.args.thread c.args.segments.now c.args.reading.now) c.knows_begin-known.ensures refl in
     let r : Result Reply AllocError = Ok c.begin.result in
-    (node_tries g.D.Area c.args.self.now (Begin c.args.node c.args.thread c.args.segments.now c.args.reading.now) refl c.begin_refusal.result c.begin_refusal.ensures.refused c.in_default.is
-    (c.begin_refusal.ensures.known c.in_default.is) (c.begin_refusal.ensures.running c.in_default.is) c.args.node refl c.index_mut.result.now c.index_mut.ensures.value r c.begin.new.self (c.begin.ensures c.args.node) _ refl refl refl).steps
+    (node_tries g.D.Area c.args.self.now (Begin c.args.node c.args.thread c.args.segments.now c.args.reading.now) refl c.refusal.result first c.in_default.is c.args.node refl c.index_mut.result.now c.index_mut.ensures.value r c.begin.new.self
+    (c.begin.ensures c.args.node) _ refl refl refl).steps
+
+pub index_mut-requires : goal.index_mut-requires
+index_mut-requires g c =
+    let w = c.args.self.now in
+    omega (arith, w.all_nodes, w.nodes.ok.0, node_within g.D.Area w (Begin c.args.node c.args.thread c.args.segments.now c.args.reading.now) c.refusal.result (c.refusal.ensures (Begin c.args.node c.args.thread c.args.segments.now c.args.reading.now) c.knows_begin-known.ensures refl) c.in_default.is c.args.node refl)

@@ -1,9 +1,6 @@
-use Rattle.std.proofs.Common.{refl, subst, inl}
-use Rattle.std.specs.Prelude.{Option}
+use Rattle.std.proofs.Common.{refl, inl, arith}
 use Rattle.lc_model.specs.declared.event.Event.TheVariants.{Close, Reserve}
-use Rattle.lc_model.specs.declared.refusal.Refusal.{Refusal}
-use Rattle.lc_events.specs.Refuses.{Refuses}
-use Rattle.lc_events.proofs.AtOnce.{stands}
+use Rattle.lc_events.proofs.AtOnce.{node_within, stands}
 use Rattle.lc_events.proofs.EndCalls.{end_room, node_ends}
 use Rattle.lc_events.proofs.Layering.{refused_tries}
 use Rattle.lc_events.proofs.NodeSteps.{of_there}
@@ -11,24 +8,22 @@ use Rattle.lc_events.proofs.Onward.{whole_set}
 use Rattle.lc_events.proofs.running.Running.end.Goals as goal
 
 pub returns-in-Some : goal.returns-in-Some
-returns-in-Some g c =
-    let refusal = c.in-Some.refusal in
-    let unknown = c.seat_refusal.ensures.unknown refusal c.in-Some.is in
-    inl (record {
-      none = tt;
-      places = refused_tries g.D.Area c.args.self.now (Reserve c.args.node c.args.thread) c.seat_refusal.result c.seat_refusal.ensures.refused refusal c.in-Some.is refl (c.seat_refusal.ensures.names refusal c.in-Some.is)
-          (record { outside = unknown.outside; inside = unknown.inside });
-    })
+returns-in-Some g c = inl (record {
+  none = tt;
+  places = refused_tries g.D.Area c.args.self.now (Reserve c.args.node c.args.thread) c.refusal.result (c.refusal.ensures (Reserve c.args.node c.args.thread) c.is_seat.ensures.known refl) c.in-Some.refusal c.in-Some.is refl;
+})
 
 pub end-requires-clause-seat : goal.end-requires-clause-seat
 end-requires-clause-seat g c =
-    (of_there g.D.Area c.args.self.now (Close c.args.node c.args.thread) refl (c.seat_refusal.ensures.known c.in_default.is) (c.seat_refusal.ensures.running c.in_default.is) c.args.node refl c.index_mut.result.now c.index_mut.ensures.value).1
+    let first = c.refusal.ensures (Close c.args.node c.args.thread) c.is_seat.ensures.known refl in
+    (of_there g.D.Area c.args.self.now (Close c.args.node c.args.thread) refl (first.known c.in_default.is) (first.running c.in_default.is) c.args.node refl c.index_mut.result.now c.index_mut.ensures.value).1
 
 pub invariant_of-self : goal.invariant_of-self
 invariant_of-self g c =
     let w = c.args.self.now in
     let node = c.index_mut.result.now in
-    let at = stands g.D.Area w (Close c.args.node c.args.thread) (c.seat_refusal.ensures.known c.in_default.is) c.args.node refl node c.index_mut.ensures.value in
+    let first = c.refusal.ensures (Close c.args.node c.args.thread) c.is_seat.ensures.known refl in
+    let at = stands g.D.Area w (Close c.args.node c.args.thread) (first.known c.in_default.is) c.args.node refl node c.index_mut.ensures.value in
     let room = end_room g.D.Area c.args.node c.args.thread node c.end.result c.end.new.self c.end.ensures in
     record {
       few = w.few;
@@ -41,6 +36,16 @@ invariant_of-self g c =
 pub returns : goal.returns
 returns g c =
     let w = c.args.self.now in
-    let refuses = subst (λ (o : Option Refusal). Refuses g.D.Area w (Close c.args.node c.args.thread) o) c.in_default.is c.seat_refusal.ensures.refused in
-    node_ends g.D.Area w c.args.node c.args.thread refuses (c.seat_refusal.ensures.known c.in_default.is) (c.seat_refusal.ensures.running c.in_default.is) c.index_mut.result.now c.index_mut.ensures.value
+    let first = c.refusal.ensures (Close c.args.node c.args.thread) c.is_seat.ensures.known refl in
+    node_ends g.D.Area w c.args.node c.args.thread c.refusal.result first c.in_default.is c.index_mut.result.now c.index_mut.ensures.value
     c.end.result c.end.new.self c.end.ensures _ refl refl refl
+
+pub index_mut-requires : goal.index_mut-requires
+index_mut-requires g c =
+    let w = c.args.self.now in
+    omega (arith, w.all_nodes, w.nodes.ok.0, node_within g.D.Area w (Close c.args.node c.args.thread) c.refusal.result (c.refusal.ensures (Close c.args.node c.args.thread) c.is_seat.ensures.known refl) c.in_default.is c.args.node refl)
+
+pub end-requires-clause-node : goal.end-requires-clause-node
+end-requires-clause-node g c =
+    let w = c.args.self.now in
+    omega (arith, w.few, node_within g.D.Area w (Close c.args.node c.args.thread) c.refusal.result (c.refusal.ensures (Close c.args.node c.args.thread) c.is_seat.ensures.known refl) c.in_default.is c.args.node refl)

@@ -4,9 +4,8 @@ use Rattle.std.specs.Prelude.{option_and_then, slice_get}
 use Rattle.lc_journal.specs.Log.{area_of}
 use Rattle.lc_events.specs.declared.node_state.NodeState.{NodeState}
 use Rattle.lc_journal.specs.LogWords.{StandsOn}
-use Rattle.lc_settled.specs.Places.{same_some}
 use Rattle.lc_events.proofs.running.Running.log_bytes.Given.{Over}
-use Rattle.std.proofs.lemmas.Option.{slice_get_read}
+use Rattle.std.proofs.lemmas.Option.{slice_get_read, same_Some as same_some}
 use Rattle.lc_events.proofs.Faults.{same_kinds_at}
 use Rattle.lc_events.proofs.Onward.{whole_set}
 use Rattle.lc_events.proofs.running.Running.log_bytes.Goals as goal

@@ -1,34 +1,23 @@
-use Rattle.std.proofs.Common.{refl, sym, subst, ◌∙◌}
-use Rattle.lc_events.proofs.AtOnce.{halted_at_once, none_at_once, acts_running}
+use Rattle.std.proofs.Common.{List, length, get_or, sym, ap, subst, ◌∙◌}
+use Rattle.std.specs.Prelude.{Option, nat_lt, is_some}
 use Rattle.lc_model.specs.declared.refusal.Refusal.{Refusal}
-use Rattle.lc_model.specs.declared.refusal.Refusal.TheVariants.{Halted, Unknown}
-use Rattle.lc_model.specs.declared.reply.Reply.TheVariants.{Refused}
-use Rattle.lc_events.specs.Geometries.{RefusesUnknown}
-use Rattle.lc_settled.specs.Places.{same_some}
-use Rattle.lc_events.proofs.Geometries.{refuses_known, refuses_outside}
+use Rattle.lc_events.specs.Refuses.{RefusesFirst}
+use Rattle.lc_events.specs.declared.node_state.NodeState.{NodeState}
+use Rattle.lc_events.proofs.AtOnce.{first_by, first_unknown, outside_last}
 use Rattle.lc_events.proofs.running.Running.refusal.Goals as goal
 
-pub returns-then-is_failed-clause-refused : goal.returns-then-is_failed-clause-refused
-returns-then-is_failed-clause-refused g c =
-    let known = sym c.is_known.ensures ∙ c.if-not-is_known.false in
-    halted_at_once g.D.Area c.args.self.now c.args.event.now known c.in_ok-node.node c.in_ok-node.ensures c.index.result.now c.index.ensures (sym c.is_failed.ensures ∙ c.if-is_failed.true)
+pub returns-in-Some : goal.returns-in-Some
+returns-in-Some g c = λ event known acts.
+    let w = c.args.self.now in
+    let its = c.in-Some.its.now in
+    let read = c.in-Some.ensures.lookup.1 ∙ ap (λ (nodes : List (NodeState g.row.D.Denot g.D.Area)). get_or nodes c.args.node its) c.deref.ensures.value in
+    subst (λ (o : Option Refusal). RefusesFirst g.D.Area w event o) (sym c.then_some.ensures)
+    (first_by g.D.Area w event (sym known ∙ c.if-known.true) c.args.node acts its read c.is_failed.result (sym c.is_failed.ensures))
 
-pub returns-else-is_failed-clause-refused : goal.returns-else-is_failed-clause-refused
-returns-else-is_failed-clause-refused g c =
-    let known = sym c.is_known.ensures ∙ c.if-not-is_known.false in
-    none_at_once g.D.Area c.args.self.now c.args.event.now known c.in_ok-node.node c.in_ok-node.ensures c.index.result.now c.index.ensures (sym c.is_failed.ensures ∙ c.if-is_failed.false)
+pub returns-in_default : goal.returns-in_default
+returns-in_default g c = λ event known acts. first_unknown g.D.Area c.args.self.now event (sym known ∙ c.if-known.false)
 
-pub returns-else-is_failed-clause-running : goal.returns-else-is_failed-clause-running
-returns-else-is_failed-clause-running g c = λ none.
-    let known = sym c.is_known.ensures ∙ c.if-not-is_known.false in
-    acts_running g.D.Area c.args.self.now c.args.event.now known c.in_ok-node.node c.in_ok-node.ensures c.index.result.now c.index.ensures (sym c.is_failed.ensures ∙ c.if-is_failed.false)
-
-pub returns-then-not-is_known-clause-unknown : goal.returns-then-not-is_known-clause-unknown
-returns-then-not-is_known-clause-unknown g c = λ refusal is.
-    subst (λ (r : Refusal). RefusesUnknown c.args.self.now.geometry c.args.event.now (Refused r)) (same_some Unknown refusal is)
-    (refuses_outside c.args.self.now.geometry c.args.event.now (sym c.is_known.ensures ∙ c.if-not-is_known.true))
-
-pub returns-then-is_failed-clause-unknown : goal.returns-then-is_failed-clause-unknown
-returns-then-is_failed-clause-unknown g c = λ refusal is.
-    subst (λ (r : Refusal). RefusesUnknown c.args.self.now.geometry c.args.event.now (Refused r)) (same_some Halted refusal is)
-    (refuses_known c.args.self.now.geometry c.args.event.now (Refused Halted) (sym c.is_known.ensures ∙ c.if-not-is_known.false) refl)
+pub returns-in_default-2 : goal.returns-in_default-2
+returns-in_default-2 g c = λ event known acts.
+    let outside = sym c.get.ensures.lookup.0 ∙ ap is_some c.in_default.is in
+    first_unknown g.D.Area c.args.self.now event (outside_last g.D.Area c.args.self.now event c.args.node acts (ap (λ (nodes : List (NodeState g.row.D.Denot g.D.Area)). nat_lt c.args.node (length nodes)) (sym c.deref.ensures.value) ∙ outside))

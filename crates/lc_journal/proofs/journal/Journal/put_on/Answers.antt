@@ -1,8 +1,8 @@
 use Rattle.std.proofs.Common.{◌≡◌, ◌==◌, ◌∙◌, length, filter, ap, sym}
+use Rattle.std.proofs.lemmas.Option.{same_Some as same_some}
 use Rattle.lc_record.specs.declared.record.Record.{Record}
 use Rattle.lc_tx.specs.Image.{laid_over}
 use Rattle.lc_tx.proofs.PutLemmas.{length-laid_over}
-use Rattle.lc_settled.specs.Places.{same_some}
 use Rattle.lc_journal.proofs.FoundByNumber.{found_one}
 use Rattle.lc_journal.proofs.journal.Journal.put_on.Goals as goal
 
