@@ -253,9 +253,9 @@ impl<D: Stoppable + Drop> World<D> {
         }
     }
 
-    /// An event. The first and the last step of a reset, and the merge of a recovery, call no area. Each other step of a
-    /// flush, a page write, a reset and a recovery makes one call of one area. Any other event makes none. A stop stops
-    /// each area.
+    /// An event. The first and the last step of a reset, and the merge of a recovery, call no area. Each other step of
+    /// a flush, a page write, a reset and a recovery makes one call of one area. Any other event makes none. A stop
+    /// stops each area.
     ///
     /// # Errors
     ///

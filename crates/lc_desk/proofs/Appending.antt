@@ -27,11 +27,12 @@ use Rattle.lc_tx.proofs.HoldsLemmas.{held_cases}
 use Rattle.lc_tx.proofs.StandsLemmas.{unwritten}
 use Rattle.lc_desk.specs.Here.{the_images}
 use Rattle.lc_desk.specs.Places.{get_set_same, get_set_other}
-use Rattle.lc_desk.specs.Seat.{Seat, Free, Open, Reserved, holder_of}
+use Rattle.lc_desk.specs.Seat.{Seat, Free, Open, Reserved, holder_of, placed as placed_as}
 use Rattle.lc_desk.specs.Seats.{Runs, AllRun}
 use Rattle.lc_desk.specs.Desk.{IsOpen, IsReserved, FitsSeat, FitsDesk, Sits}
 use Rattle.lc_desk.specs.declared.here.Here.{Here}
-use Rattle.lc_desk.proofs.Seating.{at_place, seat_of}
+use Rattle.lc_desk.proofs.Dropping.{no_turn}
+use Rattle.lc_desk.proofs.Seating.{at_place, seat_of, set_same}
 use Rattle.lc_desk.proofs.Holding.{find-left, find-right}
 use Rattle.lc_settled.proofs.Appending.{filter-end}
 
@@ -188,3 +189,17 @@ module _ (i : ℕ) (here : Here) (seats : List Seat) (tx : Tx) (at : slice_get s
       places = h.places;
       elsewhere = h.elsewhere;
     }
+
+-- of whatever seat
+pub runs_reserved : (i : ℕ) (here : Here) (seats : List Seat) (seat : Seat) → slice_get seats i ≡ Some seat → (number : ℕ) → AllRun here seats → AllRun here (slice_set seats i (placed_as number seat))
+runs_reserved i here seats Free at number runs = subst (λ (l : List Seat). AllRun here l) (sym (set_same seats i Free at)) runs
+runs_reserved i here seats (Open tx) at number runs = runs_placed i here seats tx at runs number
+runs_reserved i here seats (Reserved tx other) at number runs = subst (λ (l : List Seat). AllRun here l) (sym (set_same seats i (Reserved tx other) at)) runs
+
+pub desk_reserved : (i : ℕ) (here : Here) (seats : List Seat) (seat : Seat) → slice_get seats i ≡ Some seat → (number : ℕ) → AllRun here seats → (m : Setting) (node : ℕ) (s : State) → FitsDesk m node here seats s
+    → (t : Transaction) → running_of node i s ≡ Some t → number ≡ reserved node s.history → FitsDesk m node here (slice_set seats i (placed_as number seat)) (appended s t)
+desk_reserved i here seats Free at number runs m node s h t running counts =
+    absurd (let no : None ≡ Some t = sym (no_turn here node i (value m.start s.earlier s.history) s Free (h.threads i Free at) refl) ∙ running in cc)
+desk_reserved i here seats (Open tx) at number runs m node s h t running counts = desk_placed i here seats tx at runs number m node s h t running counts
+desk_reserved i here seats (Reserved tx other) at number runs m node s h t running counts =
+    absurd (let no : None ≡ Some t = sym (no_turn here node i (value m.start s.earlier s.history) s (Reserved tx other) (h.threads i (Reserved tx other) at) refl) ∙ running in cc)

@@ -1,12 +1,13 @@
 -- Of a desk: a reservation that is closed, and a transaction that set nothing and is over, at a node's desk.
-use Rattle.std.proofs.Common.{◌≡◌, ◌≢◌, ℕ, true, false, List, [], map, find, length, Some, None, refl, sym, ap, subst, ◌∙◌, inl, inr}
-use Rattle.std.specs.Prelude.{slice_get, slice_set, if◌then◌else◌}
+use Rattle.std.proofs.Common.{◌≡◌, ◌≢◌, ◌≤◌, ℕ, true, false, List, [], map, find, is_some, length, Some, None, refl, sym, ap, subst, ◌∙◌, inl, inr}
+use Rattle.std.specs.Prelude.{slice_get, slice_set, vec_len, if◌then◌else◌}
+use Rattle.std.proofs.lemmas.Option.{same_Some as same_some}
 use Rattle.std.proofs.lemmas.Bool.{false_from_ne_true}
 use Rattle.lc_record.specs.Content.{Content, segment_of}
 use Rattle.lc_record.specs.Transaction.{Transaction, all_set, effect}
 use Rattle.lc_record.proofs.SegmentLemmas.{length-writes_on}
 use Rattle.lc_record.proofs.ListLemmas.{slice_get-map_some as get-map}
-use Rattle.lc_range.specs.RangeSet.{Has}
+use Rattle.lc_range.specs.RangeSet.{Has, IsCanonical}
 use Rattle.lc_range.specs.declared.range.Range.{Range}
 use Rattle.lc_model.specs.History.{value, entries_of}
 use Rattle.lc_model.specs.State.{Setting, State, running_of, has_unclosed, is_by}
@@ -23,14 +24,21 @@ use Rattle.lc_tx.specs.Tx.{RunsOn, KeepsLocked}
 use Rattle.lc_tx.specs.declared.tx.Tx.{Tx}
 use Rattle.lc_tx.proofs.BesideLemmas.{stands_beside}
 use Rattle.lc_tx.proofs.HoldsLemmas.{locked_holds, reads_holds}
+use Rattle.lc_desk.specs.Counts.{CountsAll}
 use Rattle.lc_desk.specs.Here.{the_images}
-use Rattle.lc_desk.specs.Seat.{Seat, Free, Open, Reserved, reserved_of, holder_of}
-use Rattle.lc_desk.specs.Seats.{AllRun}
+use Rattle.lc_desk.specs.Reserves.{ClosesRecord}
+use Rattle.lc_desk.specs.Seat.{Seat, Free, Open, Reserved, number_of, reserved_of, holder_of, set_of}
+use Rattle.lc_desk.specs.SeatCalls.{HoldsOn, ReleasesIn}
+use Rattle.lc_desk.specs.Seats.{AllRun, AreShort}
+use Rattle.lc_desk.specs.Slots.{AreInPlace, besides_of}
 use Rattle.lc_desk.specs.Desk.{IsReserved, FitsSeat, FitsDesk}
+use Rattle.lc_desk.specs.declared.desk.Desk.{Desk}
 use Rattle.lc_desk.specs.declared.here.Here.{Here}
-use Rattle.lc_desk.proofs.Seating.{at_place}
+use Rattle.lc_desk.proofs.CountedDesk.{few_counted, in_place_counted, runs_counted, short_counted}
+use Rattle.lc_desk.proofs.Seating.{at_place, reserved_holds, reserved_seat}
+use Rattle.lc_desk.proofs.Shortness.{few_slots, in_place_same, short_freed}
 use Rattle.lc_desk.proofs.Dropping.{keeps_bytes}
-use Rattle.lc_desk.proofs.Freeing.{other_keeps, desk_freed}
+use Rattle.lc_desk.proofs.Freeing.{other_keeps, desk_freed, runs_freed}
 use Rattle.lc_settled.proofs.Closes.{entries_shut, shut}
 
 -- what another thread is doing fits as before
@@ -104,3 +112,45 @@ pub not_unclosed : (here : Here) (node i : ℕ) (content : Content) (s : State) 
 not_unclosed here node i content s Free fits none = fits.1
 not_unclosed here node i content s (Open tx) fits none = fits.unclosed
 not_unclosed here node i content s (Reserved tx number) fits none = absurd cc
+
+-- a reservation whose record is counted, and whose locks are free then
+module _ (w : Desk) (counted : Here) (i number : ℕ) (seat : Seat) (at : slice_get w.seats.items i ≡ Some seat) (numbered : number_of seat ≡ Some number) (ranges : List Range) (are : ranges ≡ set_of seat)
+    (counts : CountsAll ranges w.here.slots.items counted.slots.items) (spare : counted.spare ≡ w.here.spare) where
+  its : (tx : Tx) × (seat ≡ Reserved tx number)
+  its = reserved_seat seat number numbered
+
+  runs_on : AllRun counted w.seats.items
+  runs_on = runs_counted ranges w.here counted counts spare w.seats.items w.runs
+
+  pub holds_on : HoldsOn counted seat
+  holds_on = reserved_holds counted w.seats.items i seat at (ap is_some numbered) runs_on
+
+  module _ (free : Here) (done : ReleasesIn counted seat free) where
+    pub runs_closed : AllRun free (slice_set w.seats.items i Free)
+    runs_closed = runs_freed counted free w.seats.items i seat at done.tx done.its runs_on done.released.freed
+
+    pub few_closed : vec_len free.slots ≤ 16
+    few_closed = few_slots counted free done.released.freed.same.beside (few_counted ranges w.here counted counts spare w.few_slots)
+
+    pub short_closed : AreShort free
+    short_closed = short_freed done.tx.thread done.tx.locked.items done.tx.reading.items counted free done.released.freed (λ segment lock. ap length (done.released.same_bytes segment lock))
+        (short_counted ranges w.here counted counts spare w.short)
+
+    pub in_place_closed : AreInPlace (besides_of free)
+    in_place_closed = in_place_same counted free done.released.freed.same.beside (in_place_counted ranges w.here counted counts spare w.in_place)
+
+    same_tx : done.tx ≡ its.0
+    same_tx = same_some done.tx its.0 (sym done.its ∙ ap (λ s. holder_of (Some s)) its.1)
+
+    pub record_closed : IsCanonical (set_of seat) → (new : Desk) → new.here ≡ free → new.seats.items ≡ slice_set w.seats.items i Free → ClosesRecord i number w new
+    record_closed canonical new here seats = record {
+      tx = its.0;
+      was = at ∙ ap (λ s. Some s) its.1;
+      canonical = subst IsCanonical (ap set_of its.1) canonical;
+      counted = counted;
+      counts = subst (λ (rs : List Range). CountsAll rs w.here.slots.items counted.slots.items) (are ∙ ap set_of its.1) counts;
+      spare = spare;
+      beside = rw here done.released.freed.same.beside;
+      closes = λ m node s h unclosed. rw (here, seats) (desk_closed counted free w.seats.items i number its.0 (at ∙ ap (λ s. Some s) its.1) runs_on
+          (subst (λ (t : Tx). AreReleased the_images t.thread t.locked.items t.reading.items counted free) same_tx done.released) m node s h);
+    }

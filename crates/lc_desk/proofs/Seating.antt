@@ -8,7 +8,7 @@ use Rattle.lc_desk.specs.Places.{get_set_same, get_set_other}
 use Rattle.lc_desk.specs.Desk.{Sits}
 use Rattle.lc_desk.specs.Seats.{AllRun}
 use Rattle.lc_desk.specs.declared.here.Here.{Here}
-use Rattle.lc_desk.specs.Seat.{Seat, Free, Open, Reserved, open_of, reserved_of, number_of, holder_of, is_open}
+use Rattle.lc_desk.specs.Seat.{Seat, Free, Open, Reserved, open_of, reserved_of, number_of, holder_of, is_open, placed}
 use Rattle.lc_desk.specs.SeatCalls.{IsOpenOn, HoldsOn}
 
 pub set_same : {A : Type 0} (xs : List A) (k : ℕ) (x : A) → slice_get xs k ≡ Some x → slice_set xs k x ≡ xs
@@ -20,6 +20,11 @@ pub not_open : (seat : Seat) → is_open seat ≡ false → open_of seat ≡ Non
 not_open Free is = refl
 not_open (Open tx) is = absurd cc
 not_open (Reserved tx number) is = refl
+
+pub not_placed : (number : ℕ) (seat : Seat) → open_of seat ≡ None → placed number seat ≡ seat
+not_placed number Free none = refl
+not_placed number (Open tx) none = absurd cc
+not_placed number (Reserved tx other) none = refl
 
 pub open_seat : (seat : Seat) (tx : Tx) → open_of seat ≡ Some tx → seat ≡ Open tx
 open_seat Free tx is = absurd cc
@@ -47,12 +52,6 @@ pub reserved_seat : (seat : Seat) (number : ℕ) → number_of seat ≡ Some num
 reserved_seat Free number is = absurd cc
 reserved_seat (Open tx) number is = absurd cc
 reserved_seat (Reserved tx other) number is = (tx, ap (λ n. Reserved tx n) (same_some other number is))
-
--- what holds the locks where it is reserved
-pub reserved_holder : (seat : Seat) (tx : Tx) → is_some (number_of seat) ≡ true → holder_of (Some seat) ≡ Some tx → (number : ℕ) × (seat ≡ Reserved tx number)
-reserved_holder Free tx is its = absurd cc
-reserved_holder (Open other) tx is its = absurd cc
-reserved_holder (Reserved other number) tx is its = (number, ap (λ x. Reserved x number) (same_some other tx its))
 
 -- the seat's transaction runs where all do
 pub open_on : (here : Here) (seats : List Seat) (i : ℕ) (seat : Seat) → slice_get seats i ≡ Some seat → is_open seat ≡ true → AllRun here seats → IsOpenOn here seat

@@ -5,10 +5,6 @@ use Rattle.lc_page.specs.PageVector.{entry_at, touched_at}
 use Rattle.lc_range.specs.declared.range.Range.{Range}
 use Rattle.lc_token.specs.Backlog.{counted}
 use Rattle.lc_token.specs.declared.token.Token.{Token}
-use Rattle.lc_tx.specs.declared.tx.Tx.{Tx}
-use Rattle.lc_range.specs.RangeSet.{IsCanonical}
-use Rattle.lc_desk.specs.Seat.{Seat, Reserved, reserved_of}
-use Rattle.lc_desk.specs.declared.desk.Desk.{Desk}
 use Rattle.lc_desk.specs.declared.segment_copy.SegmentCopy.{SegmentCopy}
 
 -- some range is of this segment
@@ -82,11 +78,3 @@ Counts segment ranges old new =
 pub record CountsAll (ranges : List Range) (old new : List SegmentCopy) : Type 0 where
   pub same_length : length new ≡ length old
   pub each : (k : ℕ) (slot : SegmentCopy) → slice_get old k ≡ Some slot → (after : SegmentCopy) × (slice_get new k ≡ Some after) × Counts (k + 1) ranges slot after
-
--- a desk whose thread has no reservation stays; else its record is counted, and its number is answered
-abbrev pub CountsSeat : ℕ → Desk → Option ℕ → Desk → Type 0
-CountsSeat thread old None new =
-    ((seat : Seat) → slice_get old.seats.items thread ≡ Some seat → reserved_of seat ≡ None) × (new.here ≡ old.here) × (new.seats ≡ old.seats)
-CountsSeat thread old (Some number) new =
-    (tx : Tx) × (slice_get old.seats.items thread ≡ Some (Reserved tx number)) × IsCanonical tx.set
-    × CountsAll tx.set old.here.slots.items new.here.slots.items × (new.here.spare ≡ old.here.spare) × (new.seats ≡ old.seats)

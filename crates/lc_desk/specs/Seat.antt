@@ -23,6 +23,12 @@ reserved_of Free = None
 reserved_of (Open tx) = None
 reserved_of (Reserved tx number) = Some tx
 
+-- the seat whose open transaction, if it has one, is the record of this number
+abbrev pub placed : ℕ → Seat → Seat
+placed number Free = Free
+placed number (Open tx) = Reserved tx number
+placed number (Reserved tx other) = Reserved tx other
+
 -- which record it is
 abbrev pub number_of : Seat → Option ℕ
 number_of Free = None

@@ -4,9 +4,8 @@ ghost use Rattle.lc_range.specs.RangeSet.{IsCanonical};
 ghost use Rattle.lc_tx.specs.Fault.{is_of_begin};
 ghost use Rattle.lc_tx.specs.Images.{IsFirstTaken, IsHere, IsLockable, IsSame};
 ghost use Rattle.lc_tx.specs.Tx.{IsSetOf, none_of};
-ghost use Rattle.lc_tx.specs.declared.tx.Tx.{Tx as Kept};
 ghost use Rattle.lc_desk.specs.Here.{the_images};
-ghost use Rattle.lc_desk.specs.Seat.{Free, Open, Reserved, is_free, is_open, number_of, open_in, open_of, set_of};
+ghost use Rattle.lc_desk.specs.Seat.{Free, is_free, is_open, number_of, open_in, open_of, placed, set_of};
 ghost use Rattle.lc_desk.specs.SeatCalls.{AbortsIn, BeginsIn, HoldsOn, IsOpenOn, ReleasesIn, SetsIn};
 
 use crate::doing::Doing;
@@ -140,12 +139,14 @@ impl Seat {
         self.tx.set_range(here, segment, offset, len)
     }
 
-    /// The open transaction has its place in the log: it is this one of the node's records. It takes no memory.
-    pub fn reserve(&mut self, number: u64)
-        requires { IsTrue (is_open self.old) }
-        ensures { (tx : Kept) → self.old ≡ Open tx → self.new ≡ Reserved tx number }
+    /// An open transaction has its place in the log: it is this one of the node's records. Where none is open nothing
+    /// changes. It takes no memory.
+    pub(crate) fn reserve(&mut self, number: u64)
+        ensures { self.new ≡ placed number self.old }
     {
-        self.doing = Doing::Reserved { number };
+        if matches!(self.doing, Doing::Open) {
+            self.doing = Doing::Reserved { number };
+        }
     }
 
     /// Drops the open transaction: what it locked for writing has the bytes that it had, and its locks are free. It

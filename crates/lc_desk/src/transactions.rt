@@ -12,8 +12,8 @@ ghost use Rattle.lc_model.specs.declared.reply.Reply.TheVariants.{Bytes, Refused
 ghost use Rattle.lc_desk.specs.Prepares.{HasRoom, IsShort, IsUnsealed, Keeps, Prepares, WantsRecord};
 ghost use Rattle.lc_tx.specs.declared.tx.Tx.{Tx as Kept};
 ghost use Rattle.lc_desk.specs.Seat.{Seat as Sitting, Open, open_of, reserved_of, open_in};
-ghost use Rattle.lc_desk.specs.Counts.{CountsSeat, is_on, names_page};
-ghost use Rattle.lc_desk.specs.Reserves.{Reserves, Closes, EndsEmpty};
+ghost use Rattle.lc_desk.specs.Counts.{is_on, names_page};
+ghost use Rattle.lc_desk.specs.Reserves.{Reserves, ClosesSeat, EndsEmpty};
 ghost use Rattle.lc_desk.specs.OpenTransactions.{open_at};
 ghost use Rattle.lc_desk.specs.Uncommitted.{HasSeatOn, SetsPage};
 
@@ -229,38 +229,22 @@ impl Desk {
         ensures here { self.new.here ≡ self.old.here }
         ensures seats { vec_len self.new.seats ≡ vec_len self.old.seats }
     {
-        let seat = &mut self.seats[thread as usize];
-        if seat.is_open() {
-            seat.reserve(number);
-        }
+        self.seats[thread as usize].reserve(number);
     }
 
-    /// The record of the thread's reservation, whose number is answered, is counted by the tokens of its segments,
-    /// under whose next numbers its pages are changed; where the thread has none, nothing changes. It takes no memory.
-    pub fn count(&mut self, thread: u16) -> Option<u64>
+    /// The thread's reservation is closed, and its number answered: the tokens of its segments count the record, under
+    /// whose next numbers its pages are changed, and its locks are free. Where the thread has none, nothing changes. It
+    /// takes no memory.
+    pub fn close(&mut self, thread: u16) -> Option<u64>
         requires seat { thread < vec_len self.old.seats }
-        ensures counts { CountsSeat thread self.old result self.new }
-    {
-        let seat = &self.seats[thread as usize];
-        let number = seat.number()?;
-        self.here.count(seat.ranges());
-        Some(number)
-    }
-
-    /// The thread's reservation is closed: its locks are free. Where the thread has none, nothing changes. It takes no
-    /// memory.
-    pub fn close(&mut self, thread: u16)
-        requires seat { thread < vec_len self.old.seats }
-        ensures closes { Closes thread self.old self.new }
-        ensures none { (seat : Sitting) → slice_get self.old.seats.items thread ≡ Some seat → reserved_of seat ≡ None
-            → (self.new.here ≡ self.old.here) × (self.new.seats.items ≡ self.old.seats.items) }
-        ensures beside { the_images.IsSameBeside self.old.here self.new.here }
+        ensures closes { ClosesSeat thread self.old result self.new }
         ensures seats { vec_len self.new.seats ≡ vec_len self.old.seats }
     {
         let seat = &mut self.seats[thread as usize];
-        if seat.number().is_some() {
-            seat.release(&mut self.here);
-        }
+        let number = seat.number()?;
+        self.here.count(seat.ranges());
+        seat.release(&mut self.here);
+        Some(number)
     }
 
     /// The thread's open transaction, which has set nothing, is over: its locks are free. Where the thread has none,

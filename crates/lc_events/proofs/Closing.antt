@@ -1,5 +1,5 @@
 -- A node closes a reservation.
-use Rattle.std.proofs.Common.{◌≡◌, ℕ, Bool, true, false, [], ◌∷◌, Option, Some, None, refl, sym, ap, ◌∙◌}
+use Rattle.std.proofs.Common.{◌≡◌, ℕ, Bool, true, false, [], ◌∷◌, Option, Some, refl, sym, ap, ◌∙◌}
 use Rattle.std.specs.Prelude.{slice_get, option_map, find, if◌then◌else◌}
 use Rattle.lc_disk.specs.declared.area.Area.{Ghosts}
 use Rattle.lc_record.specs.Transaction.{Transaction}
@@ -12,12 +12,10 @@ use Rattle.lc_model.specs.declared.refusal.Refusal.TheVariants.{OutOfTurn}
 use Rattle.lc_model.specs.declared.reply.Reply.TheVariants.{Ok as Accepted, Refused}
 use Rattle.lc_model.proofs.Fronts.{entry}
 use Rattle.lc_model.proofs.Rows.{close-done, close-no_turn}
-use Rattle.lc_desk.specs.Counts.{CountsSeat}
-use Rattle.lc_desk.specs.Here.{the_images}
 use Rattle.lc_journal.specs.Logging.{Shuts}
 use Rattle.lc_events.specs.NodeState.{FitsNode, GoesOn}
 use Rattle.lc_settled.specs.Numbers.{Numbers}
-use Rattle.lc_desk.specs.Reserves.{Closes}
+use Rattle.lc_desk.specs.Reserves.{ClosesNone, ClosesRecord}
 use Rattle.lc_settled.specs.Turns.{closed_with, with_record}
 use Rattle.lc_desk.specs.declared.desk.Desk.{Desk}
 use Rattle.lc_journal.specs.declared.journal.Journal.{Journal}
@@ -48,29 +46,27 @@ entry_found node thread (e ∷ es) t is = entry_first node thread es t (entry_fo
 
 module _ {D : Type 0} (a : Ghosts D) (m : Setting) (n thread : ℕ) (s : State) (x : Numbers) (sound : Sound m.geometry s) (old : NodeState D a) (h : FitsNode a m n old s x) where
   -- without a reservation nothing changes
-  pub none_closes : (seat : Seat) → slice_get old.desk.seats.items thread ≡ Some seat → (new : Desk) → CountsSeat thread old.desk None new
+  pub none_closes : (seat : Seat) → slice_get old.desk.seats.items thread ≡ Some seat → (new : Desk) → ClosesNone thread old.desk new
       → GoesOn a m n (Close n thread) s x (Refused OutOfTurn) (record { desk = new; journal = old.journal; known = old.known })
   none_closes seat at new counts =
-      let none = not_unclosed old.desk.here n thread _ s seat (h.desk.threads thread seat at) (counts.0 seat at) in
+      let none = not_unclosed old.desk.here n thread _ s seat (h.desk.threads thread seat at) (counts.none seat at) in
       stays_so a m n (Close n thread) s x (Refused OutOfTurn) (close-no_turn m s n thread none)
       (settled_by m s x (Close n thread) (Refused OutOfTurn) (λ e. absurd cc) (λ answer is. absurd cc)) refl
-      (record { desk = rw (counts.1, counts.2) h.desk; slots = rw counts.1 h.slots; journal = h.journal; room = h.room; round = h.round; known = h.known })
+      (record { desk = rw (counts.here, counts.seats) h.desk; slots = rw counts.here h.slots; journal = h.journal; room = h.room; round = h.round; known = h.known })
 
-  module _ (number : ℕ) (counted new : Desk) (journal : Journal D a) (counts : CountsSeat thread old.desk (Some number) counted) (closes : Closes thread counted new)
-      (alike : the_images.IsSameBeside counted.here new.here) (shuts : Shuts a old.journal number journal) (group : journal.group ≡ old.journal.group) (round : journal.round ≡ old.journal.round) where
+  module _ (number : ℕ) (new : Desk) (journal : Journal D a) (it : ClosesRecord thread number old.desk new) (shuts : Shuts a old.journal number journal) (group : journal.group ≡ old.journal.group) (round : journal.round ≡ old.journal.round) where
     pub closes_one : GoesOn a m n (Close n thread) s x Accepted (record { desk = new; journal = journal; known = old.known })
     closes_one =
-        let tx = counts.0 in
-        let fits = h.desk.threads thread (Reserved tx number) counts.1 in
+        let tx = it.tx in
+        let fits = h.desk.threads thread (Reserved tx number) it.was in
         let t = fits.transaction in
         let after : State = record s { history = closed_by n thread s.history } in
         let next = with_record s x n t in
         let shut = shuts m n thread s x t sound h.journal fits.found fits.numbered in
         let logs = logs_closed m n thread s x in
-        let desk = desk_counted tx.set old.desk.here counted.here counts.3 counts.4 m n old.desk.seats.items s old.desk.runs h.desk in
-        let seats : counted.seats ≡ old.desk.seats = counts.5 in
-        let slots = slots_counted m n thread s x t sound fits.found tx.set counts.2 fits.set_is (λ segment set. unspent_of m n thread segment s x t sound fits.found h.journal.whole set)
-        old.desk.here counted.here (set_at_desk m n thread s x t sound fits.found old.desk.here old.desk.seats.items h.desk) counts.3 h.slots in
+        let desk = desk_counted tx.set old.desk.here it.counted it.counts it.spare m n old.desk.seats.items s old.desk.runs h.desk in
+        let slots = slots_counted m n thread s x t sound fits.found tx.set it.canonical fits.set_is (λ segment set. unspent_of m n thread segment s x t sound fits.found h.journal.whole set)
+        old.desk.here it.counted (set_at_desk m n thread s x t sound fits.found old.desk.here old.desk.seats.items h.desk) it.counts h.slots in
         record {
           after = after;
           next = next;
@@ -94,8 +90,8 @@ module _ {D : Type 0} (a : Ghosts D) (m : Setting) (n thread : ℕ) (s : State) 
             known = λ other segment differ. refl;
           };
           fits = record {
-            desk = closes m n s (rw seats desk) fits.unclosed_is;
-            slots = slots_alike m n counted.here new.here after next alike slots;
+            desk = it.closes m n s desk fits.unclosed_is;
+            slots = slots_alike m n it.counted new.here after next it.beside slots;
             journal = record {
               words = shut.words;
               marks = shut.marks;

@@ -32,7 +32,7 @@ use Rattle.lc_journal.specs.Logging.{end_of_records}
 use Rattle.lc_events.specs.Refuses.{ActsRunning}
 use Rattle.lc_events.specs.Running.{FitsAll, FitsRunning, Onward}
 use Rattle.lc_settled.specs.Settled.{open_answer}
-use Rattle.lc_events.specs.Stepping.{Wants, is_plain}
+use Rattle.lc_events.specs.Stepping.{Wants}
 use Rattle.lc_settled.specs.Turns.{Turns}
 use Rattle.lc_desk.specs.declared.desk.Desk.{Desk}
 use Rattle.lc_journal.specs.declared.log.Log.{Log}

@@ -60,9 +60,3 @@ module _ {D : Type 0} (a : Ghosts D) where
 
   abbrev pub EndsRunning : ℕ → ℕ → Running D a → Result Placement CallFault → Running D a → Type 0
   EndsRunning node thread = EndsBy (λ old. TriesRunning a old (Reserve node thread)) (λ old. StepsRunning a old (Close node thread))
-
-  -- the record that a thread of a node has reserved is closed
-  pub record ClosesAt (n thread place words : ℕ) (old : NodeState D a) (result : Result Placement CallFault) (new : NodeState D a) : Type 0 where
-    pub closed : Result (Unit {0}) Refusal
-    pub closes : StepsNode a n (Close n thread) old (Ok (done closed)) new
-    pub is : result ≡ closed_at closed (HasRecord place words)

@@ -76,10 +76,9 @@ impl<D: Area + Drop> NodeState<D> {
         ensures names { done_or is_turn result ≡ true }
         ensures log { self.new.journal.log ≡ self.old.journal.log }
     {
-        let Some(number) = self.desk.count(thread) else {
+        let Some(number) = self.desk.close(thread) else {
             return Reply::Refused(Refusal::OutOfTurn);
         };
-        self.desk.close(thread);
         self.journal.close(number);
         Reply::Ok
     }

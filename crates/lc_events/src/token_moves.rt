@@ -55,8 +55,8 @@ impl<D: Area + Drop> Running<D> {
         }
     }
 
-    /// The token of a segment that is on its way arrives at a node; where it is refused it stays on its way. It takes no
-    /// memory.
+    /// The token of a segment that is on its way arrives at a node; where it is refused it stays on its way. It takes
+    /// no memory.
     pub fn arrive(&mut self, node: u16, segment: u32) -> Reply
         ensures { StepsRunning D.Area self.old (Arrive node segment) result self.new }
     {

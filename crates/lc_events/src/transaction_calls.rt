@@ -4,7 +4,7 @@ ghost use Rattle.lc_model.specs.declared.event.Event.TheVariants.{Begin, SetRang
 ghost use Rattle.lc_model.specs.declared.reply.Reply.TheVariants.{Refused, Bytes};
 ghost use Rattle.lc_events.specs.Layers.{StepsRunning, TriesRunning};
 ghost use Rattle.lc_events.specs.NodeSteps.{StepsNode};
-ghost use Rattle.lc_events.specs.EndCalls.{ClosesAt, EndsNode, EndsRunning};
+ghost use Rattle.lc_events.specs.EndCalls.{EndsNode, EndsRunning};
 
 use crate::call_fault::CallFault;
 use crate::named::{is_seat, knows_begin, knows_place};
@@ -83,26 +83,13 @@ impl<D: Area + Drop> NodeState<D> {
         requires node { node ≤ 7 }
         ensures { EndsNode D.Area node thread self.old result self.new }
     {
-        match self.reserve(alloc, node, thread) {
-            Ok(reply) => match placement(&reply) {
-                Ok(Placement::Record { place, words }) => self.close_at(thread, place, words),
-                Ok(Placement::Empty) => Ok(Placement::Empty),
-                Err(fault) => Err(fault),
-            },
-            Err(_) => Err(CallFault::NoMemory),
-        }
-    }
-
-    // Closes the record that the thread has reserved, which has this place and so many words.
-    fn close_at(&mut self, thread: u16, place: u32, words: u32) -> Result<Placement, CallFault>
-        requires seat { thread < vec_len self.old.desk.seats }
-        ensures { (node : ℕ) → ClosesAt D.Area node thread place words self.old result self.new }
-    {
-        let reply = self.close(thread);
-        match done(&reply) {
-            Ok(()) => Ok(Placement::Record { place, words }),
-            Err(refusal) => Err(CallFault::Refused(refusal)),
-        }
+        let reply = self.reserve(alloc, node, thread)?;
+        let Placement::Record { place, words } = placement(&reply)? else {
+            return Ok(Placement::Empty);
+        };
+        let closed = self.close(thread);
+        done(&closed)?;
+        Ok(Placement::Record { place, words })
     }
 }
 
