@@ -36,8 +36,11 @@ const ADDITIONS_OF_A_PAIR: u64 = 60_000;
 
 const LENGTHS: u64 = 1_000;
 
-// A crowd that is not through after so many looks, of so long each, waits for a wake that was lost.
-const LOOKS: u32 = 3000;
+// A crowd of which nobody went on for so many looks, of so long each, waits for a wake that was lost. Where others use
+// the processors it goes on slowly, so the time of all is not bounded but by what a test may take.
+const IDLE_LOOKS: u32 = 2000;
+
+const LOOKS: u32 = 5500;
 
 const LOOK_MILLISECONDS: u64 = 10;
 
@@ -137,15 +140,23 @@ fn add_all_by_tries<R: Wait>(rt: &R, lock: &TicketLock<Tally, u64>) {
     }
 }
 
-// Looks until so many additions are made, and ends the test where they are not made in time.
+// Looks until so many additions are made, and ends the test where none is made any more.
 fn watch<R: Abort + Clock>(rt: &R, passed: &AtomicU64, all: u64) {
+    let mut seen = 0;
+    let mut idle: u32 = 0;
     for _ in 0..LOOKS {
-        if passed.load(Ordering::SeqCst) >= all {
-            return;
+        let before = seen;
+        seen = passed.load(Ordering::SeqCst);
+        idle = if seen == before {
+            idle.saturating_add(1)
+        } else {
+            0
+        };
+        if seen >= all || idle >= IDLE_LOOKS {
+            break;
         }
         sleep(rt, Duration::from_millis(LOOK_MILLISECONDS));
     }
-    let seen = passed.load(Ordering::SeqCst);
     assert!(rt;
         seen >= all,
         "{seen} of {all} additions are made, and the others wait"
