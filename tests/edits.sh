@@ -5,6 +5,8 @@
 # usage: tests/edits.sh [-j N] [NAME..]   tries those of by-hand/, of these crates or of all, N crates side by side (one, if
 #                                         left out); the last line is 'N refused, M not'
 #        tests/edits.sh --fits            looks that each edit of both folders can be applied (seconds; proves nothing)
+#        tests/edits.sh --together [NAME..]  tries those of by-hand/, as many in one check as stand in different functions: in
+#                                         minutes what takes hours one by one. It prints of each how it is refused
 #        tests/edits.sh --bare NAME EDIT  prints what an edit leaves open where no answer that is written by hand is in the way
 #
 # It works on a copy of the sources and of the libraries built in crates/*/out/rlib (some 2 GB), so that nothing which is built is
@@ -15,7 +17,7 @@ top=$(cd "$(dirname "$0")/.." && pwd)
 reader=$top/tests/edits.py
 
 case "${1:-}" in
---fits | --bare) exec python3 "$reader" "$top" "$@" ;;
+--fits | --together | --bare) exec python3 "$reader" "$top" "$@" ;;
 esac
 
 lanes=1
