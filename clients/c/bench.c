@@ -8,7 +8,8 @@
    four calls on a file of records: the records but for their first byte, a sync, that byte, a sync. An emptied log is
    one write of all pages and a sync, and one byte of the log and a sync. Both change the same bytes in the same
    order, and at the end they are compared. Before an opening with commits in the log a child commits, and ends
-   without a close. With glibc the allocations of a lazy commit are counted. It takes some seconds.
+   without a close. With glibc the allocations of a lazy commit are counted. Threads commit side by side, each on a
+   segment of its own, in a store of their own. It takes some seconds.
 
    cc -std=c11 -O2 -pthread -I../../include bench.c embedded.c ../../crates/lc_c/out/liblc_c.a KIT/c/liblibc_c.a \
        -o bench */
@@ -18,6 +19,7 @@
 
 #include <fcntl.h>
 #include <inttypes.h>
+#include <pthread.h>
 #include <stdio.h>
 #include <stdlib.h>
 #include <string.h>
@@ -36,6 +38,8 @@ enum {
     GROUP = 8,
     MOST_CHANGES = 1200,
     MOST_ROUNDS = 9,
+    MOST_WORKERS = 4,
+    WORKERS_CHANGES = 480, /* of all together; the log has room for as many records */
     PATH_BYTES = 512,
     MARK = 0xa5
 };
@@ -432,6 +436,90 @@ static void measure_allocations(struct bench *bench, int count)
     hand_commits(bench, count, 0);
 }
 
+/* ---- threads that commit side by side */
+
+struct worker {
+    struct bench *bench;
+    pthread_barrier_t *line;
+    uint32_t segment;
+    int count;
+    double began, ended;
+    pthread_t thread;
+};
+
+/* Begins where all are at the line. */
+static void *commit_beside_others(void *given)
+{
+    struct worker *worker = given;
+    struct bench *bench = worker->bench;
+    pthread_barrier_wait(worker->line);
+    worker->began = now();
+    for (int i = 0; i < worker->count; i++) {
+        const struct change *change = &bench->changes[i];
+        uint32_t thread;
+        need(bench, lcrvm_begin(bench->store, 0, &thread, &worker->segment, 1, NULL, 0, 0));
+        need(bench, lcrvm_put(bench->store, 0, thread, worker->segment, change->offset, change->bytes, CHANGE_BYTES));
+        need(bench, lcrvm_commit(bench->store, 0, &thread, false, NULL));
+    }
+    worker->ended = now();
+    return NULL;
+}
+
+/* The time of a commit, where so many threads make all of them: from the first that began to the last that ended. */
+static double commits_beside_others(struct bench *bench, int threads)
+{
+    struct worker workers[MOST_WORKERS];
+    pthread_barrier_t line;
+    choose_changes(bench, WORKERS_CHANGES / threads);
+    pthread_barrier_init(&line, NULL, (unsigned)threads);
+    for (int i = 0; i < threads; i++) {
+        workers[i] = (struct worker){
+            .bench = bench,
+            .line = &line,
+            .segment = (uint32_t)i + 1,
+            .count = WORKERS_CHANGES / threads,
+        };
+        if (pthread_create(&workers[i].thread, NULL, commit_beside_others, &workers[i]) != 0)
+            stop("pthread_create");
+    }
+    double began = 0, ended = 0;
+    for (int i = 0; i < threads; i++) {
+        pthread_join(workers[i].thread, NULL);
+        began = i == 0 || workers[i].began < began ? workers[i].began : began;
+        ended = workers[i].ended > ended ? workers[i].ended : ended;
+    }
+    pthread_barrier_destroy(&line);
+    need(bench, lcrvm_truncate(bench->store, 0, NULL));
+    return (ended - began) / WORKERS_CHANGES;
+}
+
+static void measure_threads(const char *room, int rounds)
+{
+    static const struct lcrvm_geometry geometry = {1, MOST_WORKERS, MOST_WORKERS, PAGES, LOG_WORDS};
+    static struct bench bench;
+    char path[PATH_BYTES + 8];
+    snprintf(bench.folder, sizeof bench.folder, "%s/threads", room);
+    bench.options = (struct lcrvm_options){.geometry = &geometry};
+    bench.seed = UINT64_C(0x9e3779b97f4a7c15);
+    need(&bench, lcrvm_create(bench.folder, &bench.options, NULL));
+    open_store(&bench);
+    printf("\n");
+    for (int threads = 1; threads <= MOST_WORKERS; threads *= 2) {
+        double took[MOST_ROUNDS];
+        for (int round = 0; round < rounds; round++)
+            took[round] = commits_beside_others(&bench, threads);
+        qsort(took, (size_t)rounds, sizeof took[0], compare);
+        printf("lazy commits, %d side by side: one each %.3f, least %.3f\n", threads, took[rounds / 2], took[0]);
+    }
+    close_store(&bench);
+    static const char *const names[] = {"lcrvm.store", "lcrvm.clean", "log0", "seg1", "seg2", "seg3", "seg4"};
+    for (size_t i = 0; i < sizeof names / sizeof names[0]; i++) {
+        snprintf(path, sizeof path, "%s/%s", bench.folder, names[i]);
+        unlink(path);
+    }
+    rmdir(bench.folder);
+}
+
 /* Whether the store has the bytes that were made by hand. */
 static bool agree(struct bench *bench)
 {
@@ -485,6 +573,7 @@ int main(int count, char *words[])
     for (size_t i = 0; i < sizeof works / sizeof works[0]; i++)
         measure(&bench, &works[i], rounds, is_short);
     measure_allocations(&bench, works[0].changes);
+    measure_threads(room, rounds);
     bool same = agree(&bench);
     printf("%s\n", same ? "both have the same bytes" : "failed: the bytes differ");
     close_store(&bench);
