@@ -238,6 +238,7 @@ class Said:
 
 
 def is_of_a_name(error):
+    """Whether an error says no more than that a written answer names what is not there."""
     return re.search(r"has no (field )?`|has no `\S+` that can be named|was not checked", error) is not None
 
 
@@ -296,7 +297,7 @@ def together(top, name):
                     alone |= set(chosen)
                     edits, chosen = chosen + edits, []
                     break
-                for it in wrong or chosen:
+                for it in wrong or list(chosen):
                     tell(it, "does not compile")
                     chosen.remove(it)
                 texts, chosen, left = made_together(chosen, crate)
