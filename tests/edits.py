@@ -12,7 +12,15 @@ import tempfile
 
 MOST_IN_THE_GATE = 6
 PARTS = ("src", "specs", "proofs")
-FUNCTION = re.compile(r'^ *(?:pub(?:\([a-z]+\))? )?(?:const )?(?:extern "C" )?fn (\w+)', re.M)
+FUNCTION = re.compile(r'^( *)(?:pub(?:\([a-z]+\))? )?(?:const )?(?:extern "C" )?fn (\w+)', re.M)
+
+
+def function_at(text, place):
+    """The name of the function that this place of a source stands in; none where it stands between two."""
+    found = [it for it in FUNCTION.finditer(text) if it.start() <= place]
+    if not found or re.search(rf"^{found[-1][1]}\}}", text[found[-1].start() : place], re.M):
+        return ""
+    return found[-1][2]
 
 
 def changes(edit, crate):
@@ -158,9 +166,7 @@ class Edit:
         texts = {}
         for path, old, new in self.changes:
             text = texts.get(path) or (crate / path).read_text(encoding="utf-8")
-            before = text.index(old) + len(old) - len(old.lstrip())
-            names = [found[1] for found in FUNCTION.finditer(text) if found.start(1) <= before]
-            self.functions.add((path, names[-1] if names else ""))
+            self.functions.add((path, function_at(text, text.index(old) + len(old) - len(old.lstrip()))))
             texts[path] = text.replace(old, new)
 
     def is_of_none(self):
@@ -209,9 +215,8 @@ class Said:
         self.open = set()
         for path, line in re.findall(r"^note: (src/\S+?):(\d+):\d+: ", text, re.M):
             source = texts.get(path) or (crate / path).read_text(encoding="utf-8")
-            above = "\n".join(source.splitlines()[: int(line)])
-            names = FUNCTION.findall(above)
-            self.open.add((path, names[-1] if names else ""))
+            # (a note names the line where a function begins, or one inside it)
+            self.open.add((path, function_at(source, sum(map(len, source.splitlines(True)[: int(line)])) - 1)))
 
     def proves(self, function):
         """Whether it is proved; one that may wait is too, and says so."""
