@@ -1,6 +1,7 @@
 //! Lock-free staging: reservations tile the log's places; what is taken is closed, whole and in place order.
 #![tactic(auto)]
 
+mod closed_record;
 mod commit;
 mod fault;
 mod flush;
@@ -15,6 +16,7 @@ mod seats;
 mod stage;
 mod stage_view;
 
+pub use closed_record::ClosedRecord;
 pub use fault::StageFault;
 pub use laws::{flushed_holds_taken, reservations_are_apart, taken_is_a_group};
 pub use receipt::Receipt;
