@@ -4,6 +4,7 @@
 #ifndef LCRVM_WAITING_H
 #define LCRVM_WAITING_H
 
+#include "locks.h"
 #include "store.h"
 
 #include <time.h>
@@ -28,27 +29,85 @@ struct waiter {
     struct waiter *next;
 };
 
-/* The number of the calling thread, which no other thread has or has had. */
-static uint64_t this_thread(void)
-{
-    static atomic_uint_fast64_t last;
-    static _Thread_local uint64_t number;
-
-    if (number == NOBODY)
-        number = atomic_fetch_add(&last, 1) + 1;
-    return number;
-}
-
 static void note_begin(struct lcrvm_store *store, uint32_t thread, const struct wish *wish)
 {
-    store->begun[wish->node][thread] = (struct begun){
-        .open = true,
-        .writing = wish->writes,
-        .reading = wish->reads & ~wish->writes,
-        .owner = wish->owner,
-    };
+    struct begun *begun = &store->begun[wish->node][thread];
+
+    begun->aside = false;
+    begun->writing = wish->writes;
+    begun->reading = wish->reads & ~wish->writes;
+    begun->owner = wish->owner;
+    begun->open = true;
     store->owned += wish->owner != NOBODY;
 }
+
+static enum lcrvm_status busy_at(uint32_t segments)
+{
+    uint32_t list_of_them[MOST_SEGMENTS];
+
+    failed(LCRVM_BUSY, "");
+    if (list_of(segments, list_of_them) > 0)
+        fault_here.segment = list_of_them[0];
+    return LCRVM_BUSY;
+}
+
+/* ---- of a node that runs, locks say who may begin */
+
+static bool are_segments(const struct lcrvm_geometry *geometry, const uint32_t *segments, size_t count)
+{
+    for (size_t i = 0; i < count; i++)
+        if (!is_within(segments[i], 1, geometry->segments))
+            return false;
+    return true;
+}
+
+static bool is_known(const struct lcrvm_store *store, const struct wish *wish)
+{
+    return wish->node < store->geometry.nodes && are_segments(&store->geometry, wish->segments, wish->count) &&
+           are_segments(&store->geometry, wish->reading, wish->reading_count);
+}
+
+/* Begins by a thread that the caller has taken, or gives it back. */
+static enum lcrvm_status begin_taken(struct lcrvm_store *store, uint32_t thread, const struct wish *wish)
+{
+    enum lcrvm_status status = lock_segments(store, wish->writes, wish->reads);
+
+    if (status == LCRVM_OK)
+        note_begin(store, thread, wish);
+    else
+        store->begun[0][thread].taken = false;
+    return status;
+}
+
+static enum lcrvm_status begin_running(struct lcrvm_store *store, uint32_t thread, const struct wish *wish)
+{
+    if (store->over)
+        return is_over(store);
+    if (!is_known(store, wish) || thread >= store->geometry.threads)
+        return failed(LCRVM_UNKNOWN, "");
+    return take_thread(store, thread) ? begin_taken(store, thread, wish) : failed(LCRVM_OUT_OF_TURN, "");
+}
+
+static enum lcrvm_status begin_free_running(struct lcrvm_store *store, const struct wish *wish, uint32_t *thread)
+{
+    enum lcrvm_status status;
+    uint32_t free = 0;
+
+    if (store->over)
+        return is_over(store);
+    if (!is_known(store, wish))
+        return failed(LCRVM_UNKNOWN, "");
+    while (free < store->geometry.threads && !take_thread(store, free))
+        free++;
+    if (free == store->geometry.threads)
+        return busy_at(0);
+    status = begin_taken(store, free, wish);
+    if (status == LCRVM_OK)
+        *thread = free;
+    return status;
+}
+
+/* ---- of others the session does */
 
 /* The segments of a wish, of which a slice of nothing has an address all the same. */
 static const uint32_t *listed(const uint32_t *segments, size_t count)
@@ -64,22 +123,14 @@ static enum lcrvm_status begin_now(struct lcrvm_store *store, uint32_t thread, c
     struct answer answer = {0};
     enum lcrvm_status status;
 
+    if (store->runs)
+        return begin_running(store, thread, wish);
     lcrvm_session_begin(&store->session, bounded(wish->node), bounded(thread), listed(wish->segments, wish->count),
                         wish->count, listed(wish->reading, wish->reading_count), wish->reading_count, &answer);
     status = answered(store, &answer);
     if (status == LCRVM_OK)
         note_begin(store, thread, wish);
     return status;
-}
-
-static enum lcrvm_status busy_at(uint32_t segments)
-{
-    uint32_t list_of_them[MOST_SEGMENTS];
-
-    failed(LCRVM_BUSY, "");
-    if (list_of(segments, list_of_them) > 0)
-        fault_here.segment = list_of_them[0];
-    return LCRVM_BUSY;
 }
 
 /* Begins a transaction by the lowest thread of the node that has none now, or not. It takes no memory. */
@@ -89,6 +140,8 @@ static enum lcrvm_status begin_free(struct lcrvm_store *store, const struct wish
     uint16_t free = 0;
     enum lcrvm_status status;
 
+    if (store->runs)
+        return begin_free_running(store, wish, thread);
     lcrvm_session_begin_free(&store->session, bounded(wish->node), listed(wish->segments, wish->count), wish->count,
                              listed(wish->reading, wish->reading_count), wish->reading_count, &free, &answer);
     status = answered(store, &answer);
@@ -133,6 +186,7 @@ static void serve_waiters(struct lcrvm_store *store)
         } else {
             waiter->served = true;
             *at = waiter->next;
+            store->waiting--;
             pthread_cond_signal(&waiter->turn);
         }
     }
@@ -257,9 +311,11 @@ static void take_out(struct lcrvm_store *store, const struct waiter *waiter)
     while (*at != waiter)
         at = &(*at)->next;
     *at = waiter->next;
+    store->waiting--;
 }
 
-/* Waits after all others; what the first attempt answered is in fault_here. */
+/* Waits after all others; what the first attempt answered is in fault_here. Who ends a transaction without the lock
+   looks whether somebody waits; so all are served once more after this one is seen to. */
 static enum lcrvm_status wait_to_begin(struct lcrvm_store *store, const struct wish *wish, uint32_t *thread,
                                        uint32_t milliseconds)
 {
@@ -270,6 +326,8 @@ static enum lcrvm_status wait_to_begin(struct lcrvm_store *store, const struct w
     while (*last != NULL)
         last = &(*last)->next;
     *last = &waiter;
+    store->waiting++;
+    serve_waiters(store);
     wait_for_turn(store, &waiter, milliseconds);
     if (!waiter.served) {
         take_out(store, &waiter);

@@ -9,3 +9,7 @@ mod Removing
 mod GivenBack
 mod Rows
 mod Holding
+mod AsksRunning
+mod SeenAreas
+mod TracedOnes
+mod FromStore

@@ -94,7 +94,8 @@ impl Answer {
         }
     }
 
-    fn of_reply(reply: &Reply) -> Answer
+    /// A reply.
+    pub(crate) fn of_reply(reply: &Reply) -> Answer
         ensures { result ≡ of_reply reply.now }
     {
         match reply {

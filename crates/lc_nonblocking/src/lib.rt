@@ -3,12 +3,17 @@
 
 mod committing;
 mod flushing;
+mod look;
+mod looking;
 mod no_gate;
 mod nonblocking_node;
 mod seating;
 mod settling;
+mod stable_end;
 mod truncating;
 mod try_fault;
 
+pub use look::Look;
 pub use nonblocking_node::NonblockingNode;
+pub use stable_end::StableEnd;
 pub use try_fault::TryFault;

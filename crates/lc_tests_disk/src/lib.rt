@@ -1,4 +1,5 @@
-//! Tests by public names of what stands on a device: areas, files, logs, pages, tokens and truncation.
+//! Tests by public names of what stands on a device: areas, files, logs, pages, tokens, truncation, and areas that
+//! keep their calls.
 #![tactic(auto)]
 
 #[cfg(test)]
@@ -15,5 +16,7 @@ mod logs;
 mod pages;
 #[cfg(test)]
 mod tokens;
+#[cfg(test)]
+mod traced;
 #[cfg(test)]
 mod truncation;

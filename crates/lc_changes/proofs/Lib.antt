@@ -1,0 +1,3 @@
+mod GatheredBytes
+mod InOrder
+mod PutBack

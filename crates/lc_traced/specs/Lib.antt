@@ -1,0 +1,5 @@
+pub mod MadeCall
+pub mod Kept
+pub mod Trace
+pub mod Failures
+pub mod TracedArea
