@@ -583,7 +583,8 @@ static int figures(const char *folder, int count)
 struct beginner {
     struct lcrvm_store *store;
     uint32_t writing, reading; /* a segment each; 0 for none */
-    uint32_t then;             /* a segment that it begins to write in a second transaction; 0 for none */
+    uint32_t also;             /* a segment that it begins to write in a second transaction; 0 for none */
+    uint32_t then;             /* and in one more, once it may end; 0 for none */
     uint32_t milliseconds;
     atomic_int id;
     atomic_bool begun, over, may_end;
@@ -601,11 +602,13 @@ static void nap(void)
 static void *begin_alone(void *argument)
 {
     struct beginner *self = argument;
-    uint32_t thread, further;
+    uint32_t thread, second, further;
 
     atomic_store(&self->id, (int)syscall(SYS_gettid));
     self->status = lcrvm_begin(self->store, 0, &thread, &self->writing, self->writing != 0, &self->reading,
                                self->reading != 0, self->milliseconds);
+    if (self->status == LCRVM_OK && self->also != 0)
+        ANSWERS(lcrvm_begin(self->store, 0, &second, &self->also, 1, NULL, 0, 0), LCRVM_OK);
     atomic_store(&self->begun, true);
     while (self->status == LCRVM_OK && !atomic_load(&self->may_end))
         nap();
@@ -614,6 +617,8 @@ static void *begin_alone(void *argument)
         if (self->second == LCRVM_OK)
             ANSWERS(lcrvm_abort(self->store, 0, &further), LCRVM_OK);
     }
+    if (self->status == LCRVM_OK && self->also != 0)
+        ANSWERS(lcrvm_abort(self->store, 0, &second), LCRVM_OK);
     if (self->status == LCRVM_OK)
         ANSWERS(lcrvm_commit(self->store, 0, &thread, true, NULL), LCRVM_OK);
     atomic_store(&self->over, true);
@@ -736,6 +741,36 @@ static void test_circles(struct lcrvm_store *store)
     CHECK((status == LCRVM_OK) != (other.second == LCRVM_OK));
 }
 
+/* Who would wait for itself is told so long before its time is over. */
+static void test_told_at_once(struct lcrvm_store *store, uint32_t segment)
+{
+    const double start_at = now();
+    uint32_t thread;
+
+    ANSWERS(begin(store, &thread, segment, 0, 5000), LCRVM_BUSY);
+    CHECK(now() - start_at < 2e6);
+}
+
+/* Another thread has two transactions, on segments 4 and 3, and waits for 2, which this one has. Who then wants one of
+   its segments is told so at once, whichever it is. */
+static void test_two_transactions(struct lcrvm_store *store)
+{
+    struct beginner other = {.store = store, .writing = 4, .also = 3, .then = 2, .milliseconds = UINT32_MAX};
+    uint32_t thread;
+
+    ANSWERS(begin(store, &thread, 2, 0, 0), LCRVM_OK);
+    start_beginner(&other);
+    until(&other.begun);
+    atomic_store(&other.may_end, true);
+    for (int seen = 0; seen < 5; nap())
+        seen = sleeps(atomic_load(&other.id)) ? seen + 1 : 0;
+    test_told_at_once(store, 4);
+    test_told_at_once(store, 3);
+    ANSWERS(lcrvm_commit(store, 0, &thread, false, NULL), LCRVM_OK);
+    pthread_join(other.thread, NULL);
+    equals(other.second, LCRVM_OK, "who waited with two transactions");
+}
+
 /* All threads of the node are taken: who waits for one gets it, and who has them all is told so at once. */
 static void test_threads_taken(struct lcrvm_store *store)
 {
@@ -781,6 +816,7 @@ static int waits(const char *folder, int count)
     test_turns(store);
     test_readers(store);
     test_circles(store);
+    test_two_transactions(store);
     test_threads_taken(store);
     test_time_over(store);
     ANSWERS(lcrvm_close(store, NULL), LCRVM_OK);

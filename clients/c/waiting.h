@@ -4,7 +4,6 @@
 #ifndef LCRVM_WAITING_H
 #define LCRVM_WAITING_H
 
-#include "locks.h"
 #include "store.h"
 
 #include <time.h>
@@ -21,7 +20,7 @@ struct wish {
 
 struct waiter {
     struct wish wish;
-    bool served, looked_at;
+    bool served, is_stuck;
     enum lcrvm_status status;
     struct lcrvm_fault fault;
     uint32_t thread;
@@ -29,85 +28,27 @@ struct waiter {
     struct waiter *next;
 };
 
+/* The number of the calling thread, which no other thread has or has had. */
+static uint64_t this_thread(void)
+{
+    static atomic_uint_fast64_t last;
+    static _Thread_local uint64_t number;
+
+    if (number == NOBODY)
+        number = atomic_fetch_add(&last, 1) + 1;
+    return number;
+}
+
 static void note_begin(struct lcrvm_store *store, uint32_t thread, const struct wish *wish)
 {
-    struct begun *begun = &store->begun[wish->node][thread];
-
-    begun->aside = false;
-    begun->writing = wish->writes;
-    begun->reading = wish->reads & ~wish->writes;
-    begun->owner = wish->owner;
-    begun->open = true;
+    store->begun[wish->node][thread] = (struct begun){
+        .open = true,
+        .writing = wish->writes,
+        .reading = wish->reads & ~wish->writes,
+        .owner = wish->owner,
+    };
     store->owned += wish->owner != NOBODY;
 }
-
-static enum lcrvm_status busy_at(uint32_t segments)
-{
-    uint32_t list_of_them[MOST_SEGMENTS];
-
-    failed(LCRVM_BUSY, "");
-    if (list_of(segments, list_of_them) > 0)
-        fault_here.segment = list_of_them[0];
-    return LCRVM_BUSY;
-}
-
-/* ---- of a node that runs, locks say who may begin */
-
-static bool are_segments(const struct lcrvm_geometry *geometry, const uint32_t *segments, size_t count)
-{
-    for (size_t i = 0; i < count; i++)
-        if (!is_within(segments[i], 1, geometry->segments))
-            return false;
-    return true;
-}
-
-static bool is_known(const struct lcrvm_store *store, const struct wish *wish)
-{
-    return wish->node < store->geometry.nodes && are_segments(&store->geometry, wish->segments, wish->count) &&
-           are_segments(&store->geometry, wish->reading, wish->reading_count);
-}
-
-/* Begins by a thread that the caller has taken, or gives it back. */
-static enum lcrvm_status begin_taken(struct lcrvm_store *store, uint32_t thread, const struct wish *wish)
-{
-    enum lcrvm_status status = lock_segments(store, wish->writes, wish->reads);
-
-    if (status == LCRVM_OK)
-        note_begin(store, thread, wish);
-    else
-        store->begun[0][thread].taken = false;
-    return status;
-}
-
-static enum lcrvm_status begin_running(struct lcrvm_store *store, uint32_t thread, const struct wish *wish)
-{
-    if (store->over)
-        return is_over(store);
-    if (!is_known(store, wish) || thread >= store->geometry.threads)
-        return failed(LCRVM_UNKNOWN, "");
-    return take_thread(store, thread) ? begin_taken(store, thread, wish) : failed(LCRVM_OUT_OF_TURN, "");
-}
-
-static enum lcrvm_status begin_free_running(struct lcrvm_store *store, const struct wish *wish, uint32_t *thread)
-{
-    enum lcrvm_status status;
-    uint32_t free = 0;
-
-    if (store->over)
-        return is_over(store);
-    if (!is_known(store, wish))
-        return failed(LCRVM_UNKNOWN, "");
-    while (free < store->geometry.threads && !take_thread(store, free))
-        free++;
-    if (free == store->geometry.threads)
-        return busy_at(0);
-    status = begin_taken(store, free, wish);
-    if (status == LCRVM_OK)
-        *thread = free;
-    return status;
-}
-
-/* ---- of others the session does */
 
 /* The segments of a wish, of which a slice of nothing has an address all the same. */
 static const uint32_t *listed(const uint32_t *segments, size_t count)
@@ -123,14 +64,22 @@ static enum lcrvm_status begin_now(struct lcrvm_store *store, uint32_t thread, c
     struct answer answer = {0};
     enum lcrvm_status status;
 
-    if (store->runs)
-        return begin_running(store, thread, wish);
     lcrvm_session_begin(&store->session, bounded(wish->node), bounded(thread), listed(wish->segments, wish->count),
                         wish->count, listed(wish->reading, wish->reading_count), wish->reading_count, &answer);
     status = answered(store, &answer);
     if (status == LCRVM_OK)
         note_begin(store, thread, wish);
     return status;
+}
+
+static enum lcrvm_status busy_at(uint32_t segments)
+{
+    uint32_t list_of_them[MOST_SEGMENTS];
+
+    failed(LCRVM_BUSY, "");
+    if (list_of(segments, list_of_them) > 0)
+        fault_here.segment = list_of_them[0];
+    return LCRVM_BUSY;
 }
 
 /* Begins a transaction by the lowest thread of the node that has none now, or not. It takes no memory. */
@@ -140,8 +89,6 @@ static enum lcrvm_status begin_free(struct lcrvm_store *store, const struct wish
     uint16_t free = 0;
     enum lcrvm_status status;
 
-    if (store->runs)
-        return begin_free_running(store, wish, thread);
     lcrvm_session_begin_free(&store->session, bounded(wish->node), listed(wish->segments, wish->count), wish->count,
                              listed(wish->reading, wish->reading_count), wish->reading_count, &free, &answer);
     status = answered(store, &answer);
@@ -186,7 +133,6 @@ static void serve_waiters(struct lcrvm_store *store)
         } else {
             waiter->served = true;
             *at = waiter->next;
-            store->waiting--;
             pthread_cond_signal(&waiter->turn);
         }
     }
@@ -220,31 +166,27 @@ static bool has_begun(const struct lcrvm_store *store, uint64_t owner, bool othe
 
 /* ---- who waits for itself */
 
-static bool is_stuck(struct lcrvm_store *store, const struct wish *wish, uint64_t owner);
-
-/* Whether no transaction of this thread ends before the owner goes on: it is the owner, or waits for it. */
-static bool waits_for(struct lcrvm_store *store, uint64_t thread, uint64_t owner)
+/* Whether a thread goes on no sooner than the owner: it is the owner, or it waits and is thought stuck. */
+static bool is_held_up(const struct lcrvm_store *store, uint64_t thread, uint64_t owner)
 {
     if (thread == NOBODY || thread == owner)
-        return thread == owner;
-    for (struct waiter *waiter = store->waiters; waiter != NULL; waiter = waiter->next)
-        if (waiter->wish.owner == thread && !waiter->looked_at) {
-            waiter->looked_at = true;
-            return is_stuck(store, &waiter->wish, owner);
-        }
+        return thread != NOBODY;
+    for (const struct waiter *waiter = store->waiters; waiter != NULL; waiter = waiter->next)
+        if (waiter->wish.owner == thread)
+            return waiter->is_stuck;
     return false;
 }
 
-/* Whether what is wished for comes no sooner than the owner goes on: who has one of the segments waits for it, or
-   all that have the node's threads do. */
-static bool is_stuck(struct lcrvm_store *store, const struct wish *wish, uint64_t owner)
+/* Whether a wish is granted no sooner than the owner goes on: a thread that is held up has one of its segments, or
+   all threads of the node are taken by such. */
+static bool is_stuck(const struct lcrvm_store *store, const struct wish *wish, uint64_t owner)
 {
     bool all_wait = true;
 
     for (uint32_t node = 0; node < store->geometry.nodes; node++)
         for (uint32_t thread = 0; thread < store->geometry.threads; thread++) {
             const struct begun *begun = &store->begun[node][thread];
-            bool waits = begun->open && waits_for(store, begun->owner, owner);
+            bool waits = begun->open && is_held_up(store, begun->owner, owner);
 
             if (waits && contested(wish->writes, wish->reads, begun->writing, begun->reading) != 0)
                 return true;
@@ -254,13 +196,27 @@ static bool is_stuck(struct lcrvm_store *store, const struct wish *wish, uint64_
     return all_wait;
 }
 
-/* Whether the owner would wait for itself. Without a transaction nobody waits for it. */
+/* Takes one waiter out of those that are thought stuck, if one of them can go on without the owner. */
+static bool frees_one(struct lcrvm_store *store, uint64_t owner)
+{
+    for (struct waiter *waiter = store->waiters; waiter != NULL; waiter = waiter->next)
+        if (waiter->is_stuck && !is_stuck(store, &waiter->wish, owner)) {
+            waiter->is_stuck = false;
+            return true;
+        }
+    return false;
+}
+
+/* Whether the owner would wait for itself. Without a transaction nobody waits for it. All waiters that have a
+   transaction are thought stuck first, and each that can go on is taken out, until none is. */
 static bool waits_for_itself(struct lcrvm_store *store, const struct wish *wish)
 {
     if (!wish->has_another)
         return false;
     for (struct waiter *waiter = store->waiters; waiter != NULL; waiter = waiter->next)
-        waiter->looked_at = false;
+        waiter->is_stuck = waiter->wish.has_another;
+    while (frees_one(store, wish->owner))
+        continue;
     return is_stuck(store, wish, wish->owner);
 }
 
@@ -311,11 +267,9 @@ static void take_out(struct lcrvm_store *store, const struct waiter *waiter)
     while (*at != waiter)
         at = &(*at)->next;
     *at = waiter->next;
-    store->waiting--;
 }
 
-/* Waits after all others; what the first attempt answered is in fault_here. Who ends a transaction without the lock
-   looks whether somebody waits; so all are served once more after this one is seen to. */
+/* Waits after all others; what the first attempt answered is in fault_here. */
 static enum lcrvm_status wait_to_begin(struct lcrvm_store *store, const struct wish *wish, uint32_t *thread,
                                        uint32_t milliseconds)
 {
@@ -326,8 +280,6 @@ static enum lcrvm_status wait_to_begin(struct lcrvm_store *store, const struct w
     while (*last != NULL)
         last = &(*last)->next;
     *last = &waiter;
-    store->waiting++;
-    serve_waiters(store);
     wait_for_turn(store, &waiter, milliseconds);
     if (!waiter.served) {
         take_out(store, &waiter);
