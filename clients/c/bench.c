@@ -9,7 +9,8 @@
    one write of all pages and a sync, and one byte of the log and a sync. Both change the same bytes in the same
    order, and at the end they are compared. Before an opening with commits in the log a child commits, and ends
    without a close. With glibc the allocations of a lazy commit are counted. Threads commit side by side, each on a
-   segment of its own, in a store of their own. It takes some seconds.
+   segment of its own, in a store of their own. They live on over all rounds, and a run lasts half a second: between
+   truncations alone, and with them. It takes some 20 seconds in memory, and some minutes on a disk.
 
    cc -std=c11 -O2 -pthread -I../../include bench.c embedded.c ../../crates/lc_c/out/liblc_c.a KIT/c/liblibc_c.a \
        -o bench */
@@ -20,6 +21,8 @@
 #include <fcntl.h>
 #include <inttypes.h>
 #include <pthread.h>
+#include <sched.h>
+#include <stdatomic.h>
 #include <stdio.h>
 #include <stdlib.h>
 #include <string.h>
@@ -39,7 +42,9 @@ enum {
     MOST_CHANGES = 1200,
     MOST_ROUNDS = 9,
     MOST_WORKERS = 4,
-    WORKERS_CHANGES = 480, /* of all together; the log has room for as many records */
+    LOG_CHANGES = 480,   /* of all threads together; the log has room for as many records */
+    LONG_BATCH = 48000,  /* of all threads together */
+    THREAD_ROUNDS = 5,
     PATH_BYTES = 512,
     MARK = 0xa5
 };
@@ -436,64 +441,112 @@ static void measure_allocations(struct bench *bench, int count)
     hand_commits(bench, count, 0);
 }
 
-/* ---- threads that commit side by side */
+/* ---- threads that commit side by side, and live on over all rounds */
+
+struct crew {
+    struct bench *bench;
+    int threads, count;     /* the commits of each in a batch */
+    atomic_uint batch;      /* the last that was called */
+    pthread_barrier_t made; /* where all have made it */
+    atomic_bool is_over;
+};
 
 struct worker {
-    struct bench *bench;
-    pthread_barrier_t *line;
+    struct crew *crew;
     uint32_t segment;
-    int count;
     double began, ended;
     pthread_t thread;
 };
 
-/* Begins where all are at the line. */
-static void *commit_beside_others(void *given)
+static void commit_beside_others(struct bench *bench, uint32_t segment, const struct change *change)
+{
+    uint32_t thread;
+    need(bench, lcrvm_begin(bench->store, 0, &thread, &segment, 1, NULL, 0, 0));
+    need(bench, lcrvm_put(bench->store, 0, thread, segment, change->offset, change->bytes, CHANGE_BYTES));
+    need(bench, lcrvm_commit(bench->store, 0, &thread, false, NULL));
+}
+
+/* Makes each batch that is called, until it is over. */
+static void *make_batches(void *given)
 {
     struct worker *worker = given;
-    struct bench *bench = worker->bench;
-    pthread_barrier_wait(worker->line);
-    worker->began = now();
-    for (int i = 0; i < worker->count; i++) {
-        const struct change *change = &bench->changes[i];
-        uint32_t thread;
-        need(bench, lcrvm_begin(bench->store, 0, &thread, &worker->segment, 1, NULL, 0, 0));
-        need(bench, lcrvm_put(bench->store, 0, thread, worker->segment, change->offset, change->bytes, CHANGE_BYTES));
-        need(bench, lcrvm_commit(bench->store, 0, &thread, false, NULL));
+    struct crew *crew = worker->crew;
+    for (unsigned batch = 1;; batch++) {
+        while (atomic_load(&crew->batch) != batch)
+            sched_yield();
+        if (atomic_load(&crew->is_over))
+            return NULL;
+        worker->began = now();
+        for (int i = 0; i < crew->count; i++)
+            commit_beside_others(crew->bench, worker->segment, &crew->bench->changes[i % MOST_CHANGES]);
+        worker->ended = now();
+        pthread_barrier_wait(&crew->made);
     }
-    worker->ended = now();
-    return NULL;
 }
 
-/* The time of a commit, where so many threads make all of them: from the first that began to the last that ended. */
-static double commits_beside_others(struct bench *bench, int threads)
+/* The time of a batch: from the first thread that began to the last that ended. */
+static double timed_batch(struct crew *crew, const struct worker *workers)
 {
-    struct worker workers[MOST_WORKERS];
-    pthread_barrier_t line;
-    choose_changes(bench, WORKERS_CHANGES / threads);
-    pthread_barrier_init(&line, NULL, (unsigned)threads);
-    for (int i = 0; i < threads; i++) {
-        workers[i] = (struct worker){
-            .bench = bench,
-            .line = &line,
-            .segment = (uint32_t)i + 1,
-            .count = WORKERS_CHANGES / threads,
-        };
-        if (pthread_create(&workers[i].thread, NULL, commit_beside_others, &workers[i]) != 0)
-            stop("pthread_create");
-    }
-    double began = 0, ended = 0;
-    for (int i = 0; i < threads; i++) {
-        pthread_join(workers[i].thread, NULL);
-        began = i == 0 || workers[i].began < began ? workers[i].began : began;
+    double began, ended;
+    atomic_fetch_add(&crew->batch, 1);
+    pthread_barrier_wait(&crew->made);
+    began = workers[0].began;
+    ended = workers[0].ended;
+    for (int i = 1; i < crew->threads; i++) {
+        began = workers[i].began < began ? workers[i].began : began;
         ended = workers[i].ended > ended ? workers[i].ended : ended;
     }
-    pthread_barrier_destroy(&line);
-    need(bench, lcrvm_truncate(bench->store, 0, NULL));
-    return (ended - began) / WORKERS_CHANGES;
+    return ended - began;
 }
 
-static void measure_threads(const char *room, int rounds)
+/* The time of a commit in a run of so long, by batches of so many commits of all together. Between truncations, each
+   batch fits into the log, which is emptied after it, while no time is taken. */
+static double timed_run(struct crew *crew, const struct worker *workers, bool between_truncations, double run)
+{
+    double took = 0, commits = 0;
+    crew->count = (between_truncations ? LOG_CHANGES : LONG_BATCH) / crew->threads;
+    choose_changes(crew->bench, MOST_CHANGES);
+    while (took < run) {
+        took += timed_batch(crew, workers);
+        commits += (double)crew->count * crew->threads;
+        if (between_truncations)
+            need(crew->bench, lcrvm_truncate(crew->bench->store, 0, NULL));
+    }
+    return took / commits;
+}
+
+static void print_runs(struct crew *crew, const struct worker *workers, bool between_truncations, int rounds,
+                       double run)
+{
+    double took[MOST_ROUNDS];
+    for (int round = 0; round < rounds; round++)
+        took[round] = timed_run(crew, workers, between_truncations, run);
+    qsort(took, (size_t)rounds, sizeof took[0], compare);
+    printf("lazy commits, %d side by side, %s: one each %.3f, least %.3f\n", crew->threads,
+           between_truncations ? "between truncations" : "with their truncations", took[rounds / 2], took[0]);
+    fflush(stdout);
+}
+
+static void measure_crew(struct bench *bench, int threads, int rounds, double run)
+{
+    struct worker workers[MOST_WORKERS];
+    struct crew crew = {.bench = bench, .threads = threads};
+    pthread_barrier_init(&crew.made, NULL, (unsigned)threads + 1);
+    for (int i = 0; i < threads; i++) {
+        workers[i] = (struct worker){.crew = &crew, .segment = (uint32_t)i + 1};
+        if (pthread_create(&workers[i].thread, NULL, make_batches, &workers[i]) != 0)
+            stop("pthread_create");
+    }
+    print_runs(&crew, workers, true, rounds, run);
+    print_runs(&crew, workers, false, rounds, run);
+    atomic_store(&crew.is_over, true);
+    atomic_fetch_add(&crew.batch, 1);
+    for (int i = 0; i < threads; i++)
+        pthread_join(workers[i].thread, NULL);
+    pthread_barrier_destroy(&crew.made);
+}
+
+static void measure_threads(const char *room, int rounds, double run)
 {
     static const struct lcrvm_geometry geometry = {1, MOST_WORKERS, MOST_WORKERS, PAGES, LOG_WORDS};
     static struct bench bench;
@@ -504,13 +557,8 @@ static void measure_threads(const char *room, int rounds)
     need(&bench, lcrvm_create(bench.folder, &bench.options, NULL));
     open_store(&bench);
     printf("\n");
-    for (int threads = 1; threads <= MOST_WORKERS; threads *= 2) {
-        double took[MOST_ROUNDS];
-        for (int round = 0; round < rounds; round++)
-            took[round] = commits_beside_others(&bench, threads);
-        qsort(took, (size_t)rounds, sizeof took[0], compare);
-        printf("lazy commits, %d side by side: one each %.3f, least %.3f\n", threads, took[rounds / 2], took[0]);
-    }
+    for (int threads = 1; threads <= MOST_WORKERS; threads *= 2)
+        measure_crew(&bench, threads, rounds, run);
     close_store(&bench);
     static const char *const names[] = {"lcrvm.store", "lcrvm.clean", "log0", "seg1", "seg2", "seg3", "seg4"};
     for (size_t i = 0; i < sizeof names / sizeof names[0]; i++) {
@@ -573,7 +621,7 @@ int main(int count, char *words[])
     for (size_t i = 0; i < sizeof works / sizeof works[0]; i++)
         measure(&bench, &works[i], rounds, is_short);
     measure_allocations(&bench, works[0].changes);
-    measure_threads(room, rounds);
+    measure_threads(room, is_short ? rounds : THREAD_ROUNDS, is_short ? 1e4 : 5e5);
     bool same = agree(&bench);
     printf("%s\n", same ? "both have the same bytes" : "failed: the bytes differ");
     close_store(&bench);
