@@ -4,6 +4,7 @@ pub mod Confirms
 pub mod EndedRecords
 pub mod FlushKeeps
 pub mod Forwards
+pub mod NoRecords
 pub mod Fronts
 pub mod KeptLog
 pub mod LeftWords

@@ -19,17 +19,17 @@ use std::marker::Model;
 /// first that somebody may still want.
 #[derive(Drop)]
 pub struct LogSide<D: Area> {
-    pub flusher: FlushSeat,
+    pub(crate) flusher: FlushSeat,
     /// A committer's seat, by which the tail is loaded.
-    pub probe: CommitSeat,
-    pub log: LogState<D>,
-    pub group: Group,
-    pub stable: Vec<u64>,
-    pub ended: Ended,
+    pub(crate) probe: CommitSeat,
+    pub(crate) log: LogState<D>,
+    pub(crate) group: Group,
+    pub(crate) stable: Vec<u64>,
+    pub(crate) ended: Ended,
     /// How many records it has published since it was opened.
-    pub count: u64,
-    pub round: u64,
-    pub known: KnownClean,
+    pub(crate) count: u64,
+    pub(crate) round: u64,
+    pub(crate) known: KnownClean,
 }
 
 impl<D: Area> Model for LogSide<D> {
@@ -53,6 +53,13 @@ impl<D: Area + Drop> LogSide<D> {
         ensures { result ≡ length self.now.stable }
     {
         self.stable.len()
+    }
+
+    /// The round that the log is in.
+    pub fn round(&self) -> u64
+        ensures { result ≡ self.now.round }
+    {
+        self.round
     }
 }
 

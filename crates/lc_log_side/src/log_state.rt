@@ -4,7 +4,7 @@ use lc_log::{Failed, NodeLog};
 
 /// A node's log at rest, or what a failed call left of it.
 #[derive(Drop)]
-pub enum LogState<D: Area> {
+pub(crate) enum LogState<D: Area> {
     /// It serves.
     Idle(NodeLog<D>),
     /// A call on the pages of a segment failed: only a recovery opens it again.

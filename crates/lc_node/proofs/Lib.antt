@@ -17,7 +17,6 @@ pub mod FromFront
 pub mod FreshFits
 pub mod FreshPages
 pub mod Joined
-pub mod Knowing
 pub mod LeftParts
 pub mod LeftSegments
 pub mod LeftTokens
@@ -30,7 +29,6 @@ pub mod OrderedTokens
 pub mod Outside
 pub mod PagesWritten
 pub mod PartsOf
-pub mod Published
 pub mod Pushing
 pub mod Received
 pub mod Refused

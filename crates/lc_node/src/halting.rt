@@ -88,7 +88,7 @@ impl<D: Area + Drop> Node<D> {
             ⊎ ((roomy : LogView D) × IsSameInRoom log.old roomy × IsUnemptied roomy fault log.new)) }
     {
         if !log.is_due()? {
-            return Ok(log.round);
+            return Ok(log.round());
         }
         let Ok(()) = log.make_room(&self.stage) else {
             return Err(NodeFault::NoMemory);

@@ -13,12 +13,10 @@ use crate::vacant::Vacant;
 use lc_disk::Area;
 use lc_ended::Ended;
 use lc_lock::TicketLock;
-use lc_log::NodeLog;
-use lc_log_side::{LogSide, LogState};
+use lc_log_side::LogSide;
 use lc_record::{Geometry, Group};
 use lc_segments::BoxedSide;
 use lc_stage::{CommitSeat, FlushSeat, Stage};
-use lc_trunc::KnownClean;
 use std::alloc::{AllocError, Global};
 use std::sync::atomic::AtomicIn;
 
@@ -111,17 +109,7 @@ impl<D: Area + Drop> LogRoom<D> {
             room_turns,
             lock,
         } = self;
-        let log = lock.fill(LogSide {
-            flusher,
-            probe,
-            log: LogState::Idle(NodeLog::new(area)),
-            group,
-            stable,
-            ended,
-            count: 0,
-            round: 0,
-            known: KnownClean::new(),
-        });
+        let log = lock.fill(LogSide::new(flusher, probe, area, group, stable, ended));
         let node = Node {
             geometry,
             number,

@@ -17,14 +17,14 @@ use std::marker::Model;
 /// a transaction has the image, it is not here.
 #[derive(Drop)]
 pub struct SegSide<D: Area> {
-    pub segment: u32,
-    pub image: Option<Image>,
+    pub(crate) segment: u32,
+    pub(crate) image: Option<Image>,
     pub(crate) base: Image,
-    pub applied: AppliedParts,
+    pub(crate) applied: AppliedParts,
     pub(crate) stored: usize,
     pub(crate) hold_back: HoldBack,
-    pub token: TokenPlace,
-    pub pages: PageArea<D>,
+    pub(crate) token: TokenPlace,
+    pub(crate) pages: PageArea<D>,
     // The number from which on pages were written here.
     pub(crate) since: u64,
     // A token that came and could not arrive yet.

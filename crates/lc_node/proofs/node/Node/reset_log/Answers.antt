@@ -1,4 +1,4 @@
-use Rattle.std.proofs.Common.{rules, ◌≡◌, false, [], Err, refl, sym, ap, subst, inl, inr}
+use Rattle.std.proofs.Common.{rules, ◌≡◌, false, [], Err, refl, sym, subst, inl, inr}
 use Rattle.std.specs.Prelude.{◌⊎◌, IfErr}
 use Rattle.std.proofs.lemmas.Result.{IfErr-weaker as if_err, IfOk-weaker as if_ok}
 use Rattle.lc_log_side.specs.Ended.{LacksRoom}
@@ -20,8 +20,7 @@ returns-then-not-branch-clause-emptied g c =
     let log = c.args.log.now in
     let not : c.in_ok-is_due.field-0 ≡ false = search rules in
     let none : (log.is_halted ≡ false) × (log.stable ≡ []) = search rules in
-    let round : c.log.inside.round ≡ log.round = ap (λ (x : LogView _). x.round) c.log.view_is in
-    (log, refl, inr (none.0, none.1, round, refl))
+    (log, refl, inr (none.0, none.1, c.round.ensures, refl))
 
 pub returns-clause-emptied : goal.returns-clause-emptied
 returns-clause-emptied g c =
