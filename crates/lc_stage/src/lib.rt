@@ -1,7 +1,6 @@
 //! Lock-free staging: reservations tile the log's places; what is taken is closed, whole and in place order.
 #![tactic(auto)]
 
-mod closed_record;
 mod commit;
 mod fault;
 mod flush;
@@ -16,9 +15,10 @@ mod seats;
 mod stage;
 mod stage_view;
 
-pub use closed_record::ClosedRecord;
 pub use fault::StageFault;
-pub use laws::{flushed_holds_taken, reservations_are_apart, taken_is_a_group};
+pub use laws::{
+    flushed_holds_taken, places_are_reserved, reservations_are_apart, taken_is_a_group,
+};
 pub use receipt::Receipt;
 pub use seats::{CommitSeat, FlushSeat};
 pub use stage::Stage;
