@@ -1,28 +1,29 @@
 #!/usr/bin/env python3
-"""Lists what is promised: each clause of each public function, each ghost member of a public trait, its laws among them, and each
-definition that the clauses of `run_areas` reach. The list is kept in tests/statements.txt, so that a clause which is dropped, or a
-definition which is changed, shows in a change as such.
+"""Lists what is promised, each as a name and a hash of its text: each clause of each public function and of each method of a
+trait, each ghost member, ghost field and model, each type, constant and static, and each definition that any of these reaches.
+The list is kept in tests/statements.txt, so that a clause which is dropped, or a definition which is changed, shows as such.
 
 usage: tests/statements.py            compares with the list (seconds; proves nothing); the last line is 'N passed, M failed'
        tests/statements.py --write    writes the list anew
 """
 import collections
+import hashlib
 import pathlib
 import re
 import sys
 
 TOP = pathlib.Path(__file__).resolve().parent.parent
 KEPT = TOP / "tests" / "statements.txt"
-HEADLINE = ("lc_core", "run_areas")
 
 OWNER = re.compile(r"^(?:pub(?:\(crate\))? )?(impl|trait)\b(.*)", re.M)
 FUNCTION = re.compile(r"^( *)(pub )?(?:final |const |unsafe |extern \S+ )*fn (\w+)", re.M)
-TRAIT = re.compile(r"^pub trait (\w+)[^{]*\{", re.M)
-MEMBER = re.compile(r"^    ghost (\w+): \{", re.M)
 CLAUSE = re.compile(r"\s*(ghost|requires\*?|ensures\*?)\s+(?:(\w+)\s*:?\s*)?\{")
 DEFINITION = re.compile(r"^(\s*)(?:abbrev pub|unfoldable pub|pub abbrev|pub record|pub data|pub|abbrev|unfoldable|record|data) (?:record |data )?([^\s:]+)")
 IMPORT = re.compile(r"^\s*(?:pub )?use Rattle\.(\w+)\.specs\.([\w.]+)\.\{(.*)\}", re.M)
-CITED = re.compile(r"^\s*ghost use Rattle\.(\w+)\.specs\.([\w.]+)\.\{(.*)\};", re.M)
+ALIAS = re.compile(r"^\s*(?:pub |ghost )?use Rattle\.(\w+)\.specs\.([\w.]+) as (\w+)", re.M)
+CITED = re.compile(r"^ *ghost use Rattle\.(\w+)\.specs\.([\w.]+)\.\{(.*?)\};", re.M | re.S)
+GHOST = re.compile(r"^ +(?:pub )?ghost (?!use)(\w+)\s*[=:]\s*\{", re.M)
+ITEM = re.compile(r"^(?:#\[[^\n]*\]\n)*(?:pub(?:\(crate\))? )?(enum|struct|const|static) (\w+)", re.M)
 WORD = re.compile(r"[^\s(){}\[\],;.]+")
 
 
@@ -66,31 +67,6 @@ def clauses_of(text, start):
     return head_of(text, start)[0]
 
 
-def functions():
-    """Of each crate's source: the crate, the file, what a function belongs to, its name, whether it is public, and its clauses."""
-    for source in sorted((TOP / "crates").glob("*/src/**/*.rt")):
-        text = without_comments(source.read_text(encoding="utf-8"))
-        owners = [(it.start(), it.group(1), one_line(text[it.start(2) : text.find("{", it.start(2))])) for it in OWNER.finditer(text)]
-        for head in FUNCTION.finditer(text):
-            kind, owner = "", ""
-            if head.group(1):
-                kind, owner = next(((kind, owner) for at, kind, owner in reversed(owners) if at < head.start()), ("", ""))
-            owner = re.sub(r"\s+where\b.*", "", re.sub(r"^<[^{]*?> (?=\w)", "", owner.strip()))
-            public = bool(head.group(2)) or kind == "trait"
-            yield source.parts[-3] if source.parts[-2] == "src" else "", source.name, owner, head.group(3), public, clauses_of(text, head.end())
-
-
-def members():
-    """Of each public trait: the crate, the file, the trait, and the name and type of each ghost member."""
-    for source in sorted((TOP / "crates").glob("*/src/*.rt")):
-        text = without_comments(source.read_text(encoding="utf-8"))
-        for trait in TRAIT.finditer(text):
-            body = text[trait.end() : closing(text, trait.end() - 1)]
-            for member in MEMBER.finditer(body):
-                end = closing(body, member.end() - 1)
-                yield source.parts[-3], source.name, trait.group(1), member.group(1), one_line(body[member.end() : end - 1])
-
-
 def definitions():
     """Each definition of specs/, by crate, module and name; and what each module imports, by the name there."""
     found, imports = {}, {}
@@ -124,36 +100,84 @@ def imported(pattern, text):
     return names
 
 
-def reached(found, imports):
-    """The definitions that the clauses of the headline reach, by way of what they name."""
-    crate, function = HEADLINE
-    source = next(it for it in (TOP / "crates" / crate / "src").glob("*.rt") if f"pub fn {function}<" in it.read_text(encoding="utf-8"))
-    text = without_comments(source.read_text(encoding="utf-8"))
-    cited = imported(CITED, text)
-    clauses = " ".join(clause[2] for clause in clauses_of(text, text.index(f"pub fn {function}")))
-    todo = collections.deque(cited[word] for word in WORD.findall(clauses) if word in cited)
-    seen = set()
+def aliases():
+    """Of each module of specs/: the modules that it names by another name."""
+    named = {}
+    for source in (TOP / "crates").glob("*/specs/**/*.antt"):
+        crate = source.parts[source.parts.index("crates") + 1]
+        module = ".".join(source.relative_to(TOP / "crates" / crate / "specs").with_suffix("").parts)
+        named[crate, module] = {name: (c, m) for c, m, name in ALIAS.findall(source.read_text(encoding="utf-8"))}
+    return named
+
+
+def reached(found, imports, roots):
+    """The definitions that these reach, by way of what they name."""
+    named = aliases()
+    todo, seen = collections.deque(roots), set()
     while todo:
         key = todo.popleft()
         if key in seen or key not in found:
             continue
         seen.add(key)
         crate, module, _ = key
-        for word in set(WORD.findall("\n".join(found[key]))):
+        text = "\n".join(found[key])
+        for word in set(WORD.findall(text)):
             todo.append(imports[crate, module].get(word, (crate, module, word)))
+        for alias, name in re.findall(r"(\w+)\.(\w+)", text):
+            if alias in named[crate, module]:
+                todo.append((*named[crate, module][alias], name))
     return seen
 
 
+def digest(text):
+    return hashlib.sha256(one_line(text).encode()).hexdigest()[:12]
+
+
+def told_clauses(text):
+    """Of each function of a source that others may call: its name, with that of its owner, and its clauses."""
+    owners = [(it.start(), it[1], one_line(text[it.start(2) : text.find("{", it.start(2))])) for it in OWNER.finditer(text)]
+    for head in FUNCTION.finditer(text):
+        kind, owner = "", ""
+        if head[1]:
+            kind, owner = next(((kind, owner) for at, kind, owner in reversed(owners) if at < head.start()), ("", ""))
+        if head[2] or kind == "trait" or " for " in owner:
+            yield head[3], clauses_of(text, head.end())
+
+
+def told_ghosts(text):
+    """Of each ghost member, ghost field and model of a source: its name and text."""
+    for it in GHOST.finditer(text):
+        yield it[1], text[it.end() : closing(text, it.end() - 1) - 1]
+
+
+def told_items(text):
+    """Of each type, constant and static of a source: its kind, name and text."""
+    for it in ITEM.finditer(text):
+        if it[1] in ("const", "static"):
+            end = text.find(";\n", it.end())
+        else:
+            start = min(place for place in (text.find("{", it.end()), text.find(";", it.end()), len(text)) if place >= 0)
+            end = closing(text, start) if text[start : start + 1] == "{" else start
+        yield it[1], it[2], text[it.start() : end]
+
+
 def statements():
-    lines = []
-    for crate, file, owner, name, public, clauses in functions():
-        if crate and public:
-            place = f"{crate} {file} {owner + ' ' if owner else ''}{name}"
-            lines += [f"{place} | {kind} {label + ' ' if label else ''}{{ {text} }}" for kind, label, text in clauses]
-    lines += [f"{crate} {file} {trait} {name} | ghost {{ {text} }}" for crate, file, trait, name, text in members()]
+    lines, roots = [], []
+    for source in sorted((TOP / "crates").glob("*/src/**/*.rt")):
+        place = f"{source.parts[source.parts.index('crates') + 1]} {source.name}"
+        text = without_comments(source.read_text(encoding="utf-8"))
+        cited, told = imported(CITED, text), []
+        for name, clauses in told_clauses(text):
+            lines += [f"{place} fn {name} {kind} {label} {digest(clause)}" for kind, label, clause in clauses]
+            told += [clause for _, _, clause in clauses]
+        for name, body in told_ghosts(text):
+            lines.append(f"{place} ghost {name} {digest(body)}")
+            told.append(body)
+        lines += [f"{place} {kind} {name} {digest(body)}" for kind, name, body in told_items(text)]
+        roots += [cited[word] for body in told for word in WORD.findall(body) if word in cited]
     found, imports = definitions()
-    for crate, module, name in sorted(reached(found, imports)):
-        lines.append(f"{crate} specs/{module} {name} | {one_line(' '.join(found[crate, module, name]))}")
+    for crate, module, name in sorted(reached(found, imports, roots)):
+        lines.append(f"{crate} specs/{module} {name} {digest(' '.join(found[crate, module, name]))}")
     return lines
 
 
