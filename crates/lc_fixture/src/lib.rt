@@ -8,6 +8,4 @@ mod stores;
 
 pub use listed_files::{FOLDER, Listed, ListedFile, Shelf, Trouble};
 pub use narrow::Narrow;
-pub use stores::{
-    CLOSED, ONE, SlotText, WRONG_LENGTHS, bytes_of, hello, log_area, open, segment_area, store_of,
-};
+pub use stores::{CLOSED, ONE, SlotText, hello, log_area, segment_area};

@@ -31,8 +31,6 @@ pub enum Trouble {
     Nothing,
     /// Another process has the folder.
     InUse,
-    /// No name can be looked at.
-    Looks,
     /// The sync of this number, from 1, fails.
     Sync(u32),
     /// The write of this number, from 1, fails.
@@ -77,29 +75,12 @@ impl Shelf {
         Ok(mem::replace(&mut *said, String::new(self.alloc)))
     }
 
-    /// Puts an empty file there.
-    pub fn put(&self, path: &str) -> io::Result<()> {
-        self.put_text(path, "")
-    }
-
     /// Puts a file with this text there.
     pub fn put_text(&self, path: &str, text: &str) -> io::Result<()> {
-        let place = self.add(path)?;
         let mut bytes = Vec::new(self.alloc);
         bytes.extend_from_slice(text.as_bytes())?;
-        let mut entries = self.entries.try_borrow_mut()?;
-        if let Some(entry) = entries.get_mut(place) {
-            entry.bytes = bytes;
-        }
+        self.add(path, bytes)?;
         Ok(())
-    }
-
-    /// Takes away the file of this path.
-    pub fn take(&self, path: &str) -> io::Result<()> {
-        match self.find(path)? {
-            Some(place) => self.name(place, ""),
-            None => Err(Error::from(ErrorKind::NotFound)),
-        }
     }
 
     fn list(&self, call: &str, path: &str) -> io::Result<()> {
@@ -119,14 +100,11 @@ impl Shelf {
         Ok(None)
     }
 
-    fn add(&self, path: &str) -> io::Result<usize> {
+    fn add(&self, path: &str, bytes: Vec<u8>) -> io::Result<usize> {
         let path = String::from_str(self.alloc, path)?;
         let mut entries = self.entries.try_borrow_mut()?;
         let place = entries.len();
-        entries.push(Entry {
-            path,
-            bytes: Vec::new(self.alloc),
-        })?;
+        entries.push(Entry { path, bytes })?;
         Ok(place)
     }
 
@@ -158,26 +136,15 @@ impl Shelf {
         }
     }
 
-    // Whether a sync that is made now fails.
-    fn sync_fails(&self) -> bool {
-        match self.trouble.get() {
-            Trouble::Sync(left) => {
-                self.trouble.set(Trouble::Sync(left.saturating_sub(1)));
-                left == 1
-            }
-            _ => false,
-        }
-    }
-
-    // Whether a write that is made now fails.
-    fn write_fails(&self) -> bool {
-        match self.trouble.get() {
-            Trouble::Write(left) => {
-                self.trouble.set(Trouble::Write(left.saturating_sub(1)));
-                left == 1
-            }
-            _ => false,
-        }
+    // Whether a sync that is made now fails, or a write.
+    fn fails(&self, is_sync: bool) -> bool {
+        let (left, next) = match self.trouble.get() {
+            Trouble::Sync(left) if is_sync => (left, Trouble::Sync(left.saturating_sub(1))),
+            Trouble::Write(left) if !is_sync => (left, Trouble::Write(left.saturating_sub(1))),
+            _ => return false,
+        };
+        self.trouble.set(next);
+        left == 1
     }
 }
 
@@ -216,7 +183,7 @@ impl<'a> Files for Listed<'a> {
             }
             None if how.asks_create_new() || how.asks_create() => {
                 self.0.list("make", path)?;
-                Some(self.0.add(path)?)
+                Some(self.0.add(path, Vec::new(self.0.alloc))?)
             }
             None => return Err(Error::from(ErrorKind::NotFound)),
         };
@@ -238,9 +205,6 @@ impl<'a> Files for Listed<'a> {
 
     fn symlink_metadata(&self, path: &str) -> io::Result<Metadata> {
         self.0.list("look", path)?;
-        if let Trouble::Looks = self.0.trouble.get() {
-            return Err(Error::other("the look failed"));
-        }
         self.0.metadata(path)
     }
 
@@ -281,23 +245,13 @@ impl<'a> Files for Listed<'a> {
 }
 
 /// An open file of the folder, or the folder itself.
+#[derive(Drop)]
 pub struct ListedFile<'a> {
     shelf: &'a Shelf,
     place: Option<usize>,
     path: String,
     // Where it is read from next.
     at: u64,
-}
-
-impl Drop for ListedFile<'_> {
-    fn drop(self) {
-        let ListedFile {
-            shelf: _shelf,
-            place: _place,
-            path: _path,
-            at: _at,
-        } = self;
-    }
 }
 
 impl FileExt for ListedFile<'_> {
@@ -318,7 +272,7 @@ impl FileExt for ListedFile<'_> {
         let len = buf.len();
         let call = format!(in self.shelf.alloc; "{path} {offset} {len}")?;
         self.shelf.list("write", &call)?;
-        if self.shelf.write_fails() {
+        if self.shelf.fails(false) {
             return Err(Error::other("the write failed"));
         }
         let mut entries = self.shelf.entries.try_borrow_mut()?;
@@ -357,7 +311,7 @@ impl OpenFile for ListedFile<'_> {
 
     fn sync_data(&self) -> io::Result<()> {
         self.shelf.list("sync", &self.path)?;
-        if self.shelf.sync_fails() {
+        if self.shelf.fails(true) {
             return Err(Error::other("the sync failed"));
         }
         Ok(())
@@ -368,20 +322,24 @@ impl OpenFile for ListedFile<'_> {
     }
 }
 
+impl ListedFile<'_> {
+    // A lock that another process may have.
+    fn lock(&self, call: &str) -> Result<(), TryLockError> {
+        match (self.shelf.list(call, &self.path), self.shelf.trouble.get()) {
+            (Ok(()), Trouble::InUse) => Err(TryLockError::WouldBlock),
+            (Ok(()), _) => Ok(()),
+            (Err(error), _) => Err(TryLockError::Error(error)),
+        }
+    }
+}
+
 impl HeldFile for ListedFile<'_> {
     fn beside_standard_streams(self) -> io::Result<Self> {
         Ok(self)
     }
 
     fn try_lock(&self) -> Result<(), TryLockError> {
-        match (
-            self.shelf.list("lock", &self.path),
-            self.shelf.trouble.get(),
-        ) {
-            (Ok(()), Trouble::InUse) => Err(TryLockError::WouldBlock),
-            (Ok(()), _) => Ok(()),
-            (Err(error), _) => Err(TryLockError::Error(error)),
-        }
+        self.lock("lock")
     }
 }
 
@@ -393,14 +351,7 @@ impl OwnedFile for ListedFile<'_> {
 
 impl SharedFile for ListedFile<'_> {
     fn try_lock_shared(&self) -> Result<(), TryLockError> {
-        match (
-            self.shelf.list("share", &self.path),
-            self.shelf.trouble.get(),
-        ) {
-            (Ok(()), Trouble::InUse) => Err(TryLockError::WouldBlock),
-            (Ok(()), _) => Ok(()),
-            (Err(error), _) => Err(TryLockError::Error(error)),
-        }
+        self.lock("share")
     }
 }
 

@@ -1,6 +1,4 @@
 //! The areas of stores that others have made.
-ghost use Rattle.std.specs.Prelude.{◌≡◌, IfOk, length};
-
 use lc_disk::MemArea;
 use lc_record::Geometry;
 use std::alloc::{AllocError, Global};
@@ -17,26 +15,11 @@ pub const ONE: Geometry = Geometry {
     words: 64,
 };
 
-/// Lengths of areas that are not those of this store, and what is printed.
-pub const WRONG_LENGTHS: [(&[usize], &str); 4] = [
-    (&[520, 543], "refused BadGeometry 1\n"),
-    (&[8, 544], "refused BadGeometry 0\n"),
-    (&[520], "refused BadGeometry 1\n"),
-    (&[520, 544, 544], "refused BadGeometry 2\n"),
-];
-
 /// A slot of a page: its gate, its sequence, and the byte that fills its page.
 pub type SlotText = (u8, u64, u8);
 
 /// A slot that was never written.
 pub const CLOSED: SlotText = (0, 0, 0);
-
-/// An open slot.
-pub const fn open(seq: u64, byte: u8) -> SlotText
-    ensures { result ≡ (165, seq, byte) }
-{
-    (0xa5, seq, byte)
-}
 
 /// The record of a node under a lock on a segment, with the bytes "hello" at an offset of it.
 pub fn hello(node: u16, segment: u32, seq: u64, offset: u32) -> [u64; 8] {
@@ -52,8 +35,8 @@ pub fn hello(node: u16, segment: u32, seq: u64, offset: u32) -> [u64; 8] {
     ]
 }
 
-/// The bytes of words.
-pub fn bytes_of(alloc: Global, words: &[u64]) -> Result<Vec<u8>, AllocError> {
+// The bytes of words.
+fn bytes_of(alloc: Global, words: &[u64]) -> Result<Vec<u8>, AllocError> {
     let mut bytes = Vec::new(alloc);
     for word in words {
         bytes.extend_from_slice(&word.to_le_bytes())?;
@@ -77,15 +60,4 @@ pub fn segment_area(alloc: Global, slots: &[SlotText]) -> Result<MemArea, AllocE
         bytes.extend_from_slice(&[*byte; 256])?;
     }
     MemArea::from_bytes(alloc, &bytes)
-}
-
-/// The areas of a store of one log and one segment.
-pub fn store_of(
-    alloc: Global,
-    words: &[u64],
-    slots: &[SlotText],
-) -> Result<Vec<MemArea>, AllocError>
-    ensures { IfOk result (λ areas. length areas.items ≡ 2) }
-{
-    Ok(vec![in alloc; log_area(alloc, words)?, segment_area(alloc, slots)?]?)
 }

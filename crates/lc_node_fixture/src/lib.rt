@@ -7,5 +7,5 @@ mod shared;
 mod stores;
 
 pub use seats::{Open, TRIES, confirm, get, put, put_and_confirm};
-pub use shared::{Mirror, SharedArea, Shelf, area_of, zeros};
+pub use shared::{SharedArea, Shelf};
 pub use stores::{LOG_BYTES, SEGMENT_BYTES, WORDS, recovered};

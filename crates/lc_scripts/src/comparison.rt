@@ -2,8 +2,7 @@
 ghost use Rattle.lc_disk.specs.When.{IsCountable};
 
 use crate::case::{Case, Failure};
-use lc_disk::{Fuse, When};
-use lc_recover::zero_areas;
+use lc_disk::{Fuse, MemArea, When};
 use lc_tool::{Manner, ToolFault, run_script};
 use std::alloc::{AllocError, Global};
 
@@ -13,13 +12,14 @@ const WHOLE: Manner = Manner {
     number: false,
 };
 
-/// What a script prints on a new store, of which a call may fail, and its status.
+/// What a script prints on these areas, of which a call may fail, and its status.
 pub(crate) fn printed(
     alloc: Global,
     case: Case<'_>,
+    areas: Vec<MemArea>,
     script: &[u8],
 ) -> Result<(Vec<u8>, u8), ToolFault> {
-    let Ok(areas) = areas_of(alloc, case) else {
+    let Ok(areas) = fused(alloc, case.failure, areas) else {
         return Err(ToolFault::NoMemory);
     };
     let mut reader = script;
@@ -28,14 +28,18 @@ pub(crate) fn printed(
     Ok((text, status))
 }
 
-// The areas of a new store, one of which may fail.
-fn areas_of(alloc: Global, case: Case<'_>) -> Result<Vec<Fuse>, AllocError> {
-    let mut areas = Vec::new(alloc);
-    for area in zero_areas(alloc, &case.geometry)? {
-        let when = when(case.failure, areas.len());
-        areas.push(Fuse::new(area, when))?;
+// The areas, one of which may fail.
+fn fused(
+    alloc: Global,
+    failure: Option<Failure>,
+    areas: Vec<MemArea>,
+) -> Result<Vec<Fuse>, AllocError> {
+    let mut fused = Vec::new(alloc);
+    for area in areas {
+        let when = when(failure, fused.len());
+        fused.push(Fuse::new(area, when))?;
     }
-    Ok(areas)
+    Ok(fused)
 }
 
 // When the area at this place fails: at no call, unless it is the one that is named.

@@ -1,15 +1,32 @@
 //! Runs the scripts that the file `cases` of a folder names, and compares what they print with what is wanted.
 #![tactic(auto)]
 
+mod areas;
 mod case;
 mod comparison;
 
 use anyhow::Context;
+use areas::areas_with;
 use case::Case;
 use comparison::{first_difference, printed};
+use lc_disk::MemArea;
 use std::process::ExitCode;
 use std::rt::Files;
 use std::{env, fs};
+
+// The areas of a case: those that its file says, or zeros.
+fn areas_of<R: AllocGlobal + Files>(
+    rt: &R,
+    folder: &str,
+    case: Case<'_>,
+) -> anyhow::Result<Vec<MemArea>> {
+    let alloc = rt.alloc();
+    let Some(name) = case.areas else {
+        return areas_with(alloc, &case.geometry, case.name, "");
+    };
+    let pieces = fs::read_to_string(rt, format!(in alloc; "{folder}/{name}.areas")?)?;
+    areas_with(alloc, &case.geometry, name, &pieces)
+}
 
 // Runs the script of a case, and tells whether it went as wanted. Where it did not, a line says in what.
 fn goes<R: AllocGlobal + Files + Print>(
@@ -21,7 +38,8 @@ fn goes<R: AllocGlobal + Files + Print>(
     let name = case.name;
     let script = fs::read(rt, format!(in alloc; "{folder}/{name}.script")?)?;
     let wanted = fs::read(rt, format!(in alloc; "{folder}/{name}.wanted")?)?;
-    let (text, status) = printed(alloc, case, &script)?;
+    let areas = areas_of(rt, folder, case)?;
+    let (text, status) = printed(alloc, case, areas, &script)?;
     let line = first_difference(&text, &wanted);
     if let Some(line) = line {
         println!(rt; "{name}: line {line} is not as wanted")?;

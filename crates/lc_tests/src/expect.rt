@@ -11,13 +11,3 @@ pub(crate) fn equal<T: PartialEq + Debug>(
 ) {
     assert!(rt; got == wanted, "{row}: {got:?}, where {wanted:?} is wanted");
 }
-
-/// The same of texts.
-pub(crate) fn equal_texts(rt: &impl Abort, row: &impl Display, got: &str, wanted: &str) {
-    assert!(rt; got == wanted, "{row}: {got:?}, where {wanted:?} is wanted");
-}
-
-/// Fails where it does not hold, and says the row.
-pub(crate) fn holds(rt: &impl Abort, row: &impl Display, it: bool) {
-    assert!(rt; it, "{row}");
-}

@@ -1,2 +1,1 @@
-mod ChangedParts
 mod OwnSeats

@@ -2,22 +2,18 @@
 #![tactic(auto)]
 
 #[cfg(test)]
-mod act;
-#[cfg(test)]
-mod both;
-#[cfg(test)]
-mod changed_parts;
-#[cfg(test)]
-mod changing;
-#[cfg(test)]
-mod clusters;
-#[cfg(test)]
 mod coming_up;
+#[cfg(test)]
+mod crews;
+#[cfg(test)]
+mod exchanges;
 #[cfg(test)]
 mod expect;
 #[cfg(test)]
-mod pair;
+mod parts;
 #[cfg(test)]
 mod rings;
 #[cfg(test)]
-mod trims;
+mod stores;
+#[cfg(test)]
+mod worlds;

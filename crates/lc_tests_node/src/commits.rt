@@ -1,15 +1,11 @@
 //! Commits of one caller, and where their records are.
-use crate::stores::{in_memory, opened, two_segments};
-use lc_node::{Commit, Confirmed, Mode, NodeFault, Put};
-use lc_node_fixture::{get, put, put_and_confirm};
+use crate::expect::equal;
+use crate::stores::{HELLO, in_memory, opened, two_segments};
+use lc_node::{Commit, Confirmed, Get, Mode, Put};
+use lc_node_fixture::{Open, TRIES, get, put, put_and_confirm};
 use lc_stage::Receipt;
+use std::alloc::Global;
 use std::test::*;
-
-const HELLO: Put<'static> = Put {
-    segment: 1,
-    offset: 3,
-    bytes: b"hello",
-};
 
 const BYE: Put<'static> = Put {
     segment: 1,
@@ -47,23 +43,35 @@ fn a_record_is_here_and_behind_a_truncation_earlier(rt: HostRuntime) -> Result<(
     Ok(())
 }
 
+// The five bytes that `HELLO` changes.
+fn get_hello(alloc: Global) -> Get {
+    Get {
+        segment: 1,
+        offset: 3,
+        len: 5,
+        found: Vec::new(alloc),
+    }
+}
+
 #[test]
-fn what_is_refused_changes_nothing(rt: HostRuntime) -> Result<(), Fail> {
+fn a_caller_reads_back_what_it_committed_under_its_locks(rt: HostRuntime) -> Result<(), Fail> {
     let alloc = rt.alloc();
-    let (node, seat) = opened(alloc, two_segments()?, in_memory(alloc)?)?;
-    let (seat, refused) = put(&rt, alloc, &node, seat, &[1, 3], HELLO, Mode::Flush);
-    assert!(rt; matches!(refused, Err(NodeFault::NotHere { segment: 3 })));
-    let (seat, refused) = put(&rt, alloc, &node, seat, &[2], HELLO, Mode::Flush);
-    assert!(rt; matches!(refused, Err(NodeFault::NotLocked)));
-    let beyond = Put {
-        offset: 510,
-        ..HELLO
+    let (node, mut seat) = opened(alloc, two_segments()?, in_memory(alloc)?)?;
+    let Ok(mut held) = node.hold(&rt, alloc, &[1, 2]) else {
+        return Err(Fail::from("there is memory for two locks"));
     };
-    let (seat, refused) = put(&rt, alloc, &node, seat, &[1], beyond, Mode::Flush);
-    assert!(rt; matches!(refused, Err(NodeFault::OutOfSegment)));
-    assert!(rt; node.flush(&rt) == Ok(0));
-    assert!(rt; node.truncate(&rt, alloc) == Ok(0), "the log has no record");
-    let (_seat, found) = get(&rt, alloc, &node, seat, 1, 3, 5);
-    assert!(rt; found.expect(&rt, "it is there").as_slice() == [0; 5].as_slice());
+    let (mut first, mut work, mut second) = (get_hello(alloc), HELLO, get_hello(alloc));
+    let done = held.commit(alloc, &node, &mut seat, &mut work, TRIES, &Open);
+    let read = held.commit(alloc, &node, &mut seat, &mut first, TRIES, &Open);
+    held.fold();
+    let again = held.commit(alloc, &node, &mut seat, &mut second, TRIES, &Open);
+    node.release(held);
+    equal(&rt, &"the commit", &done, &Ok(true));
+    equal(&rt, &"one that reads alone", &read, &Ok(false));
+    equal(&rt, &"one behind a fold", &again, &Ok(false));
+    for (row, get) in [("what was read", first), ("and then", second)] {
+        equal(&rt, &row, &get.found.as_slice(), &b"hello".as_slice());
+    }
+    equal(&rt, &"the flush", &node.flush(&rt), &Ok(1));
     Ok(())
 }

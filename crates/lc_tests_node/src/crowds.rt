@@ -205,7 +205,7 @@ fn workers<'a, 'b>(
 fn each_receipt_is_confirmed_and_the_pages_have_all(rt: HostRuntime) -> Result<(), Fail> {
     let alloc = rt.alloc();
     let finished = AtomicU32::new(0);
-    let shelf = Shelf::new(alloc)?;
+    let shelf = Shelf::new(alloc, &two_segments()?)?;
     let (node, mut seat) = opened(alloc, two_segments()?, shelf.areas(alloc)?)?;
     let workers = workers(alloc, &node, &finished, &mut seat)?;
     let host = &rt;

@@ -8,7 +8,16 @@ use std::alloc::{AllocError, Global};
 use std::process::Abort;
 use std::test::*;
 
-// The token of segment 1 is at node 1, and that of segment 2 at node 0.
+/// A store of one node, one segment and one page.
+pub(crate) const ONE_NODE: Geometry = Geometry {
+    nodes: 1,
+    threads: 2,
+    segments: 1,
+    pages: 1,
+    words: 64,
+};
+
+/// The token of segment 1 is at node 1, and that of segment 2 at node 0.
 pub(crate) const TWO_NODES: Geometry = Geometry {
     nodes: 2,
     threads: 1,
@@ -19,9 +28,6 @@ pub(crate) const TWO_NODES: Geometry = Geometry {
 
 /// What a stop may do to what is not stable.
 pub(crate) const STOPS: [&str; 5] = ["stop keep", "stop stable", "stop 00", "stop 7f", "stop a5"];
-
-// More steps than any recovery of these tests has.
-const MOST_STEPS: u32 = 100;
 
 /// The event of a line.
 pub(crate) fn event_of(alloc: Global, line: &str) -> Result<Event, Fail> {
@@ -54,11 +60,6 @@ pub(crate) fn text_of<'a>(reply: &Reply, line: &'a mut [u8; 64]) -> Option<&'a s
     str::from_utf8(written).ok()?.strip_suffix("\n")
 }
 
-/// Whether this is the text of a reply.
-pub(crate) fn says(reply: &Reply, text: &str) -> bool {
-    text_of(reply, &mut [0; 64]) == Some(text)
-}
-
 /// A store replies so to these lines.
 pub(crate) fn play<D: Stoppable + Drop>(
     rt: &impl Abort,
@@ -83,23 +84,8 @@ pub(crate) fn comes_up<D: Stoppable + Drop>(
     alloc: Global,
     world: &mut World<D>,
 ) -> Result<(), Fail> {
-    for _ in 0..MOST_STEPS {
-        if let Reply::Recovered = world.step(alloc, &Event::RecoverStep)? {
-            return Ok(());
-        }
+    match world.recover(alloc) {
+        Ok(()) => Ok(()),
+        Err(_) => Err(Fail::from("a recovery ends")),
     }
-    Err(Fail::from("a recovery ends"))
-}
-
-/// The store of these areas, which is up.
-pub(crate) fn up_on<D: Stoppable + Drop>(
-    alloc: Global,
-    geometry: Geometry,
-    areas: Vec<D>,
-) -> Result<World<D>, Fail> {
-    let Ok(mut world) = World::new(geometry, areas) else {
-        return Err(Fail::from("the areas fit the geometry"));
-    };
-    comes_up(alloc, &mut world)?;
-    Ok(world)
 }

@@ -1,5 +1,5 @@
 //! Two nodes whose store meets want of memory at any event: with memory it goes on as if nothing had been.
-use crate::events::{TWO_NODES, events_of, says};
+use crate::events::{TWO_NODES, events_of, text_of};
 use crate::expect::{equal, holds};
 use crate::hostile_tests::{EVENTS, FLUSHED};
 use lc_core::{Event, Reply, RunResult, World};
@@ -69,9 +69,10 @@ static TWO_PEERS: [(&str, &str); 41] = [
 
 // Which events may want memory at all.
 fn may_ask(line: &str) -> bool {
-    ["range", "read", "reserve", "deliver"]
-        .iter()
-        .any(|word| line.starts_with(word))
+    line.starts_with("range")
+        || line.starts_with("read")
+        || line.starts_with("reserve")
+        || line.starts_with("deliver")
 }
 
 // Where there is no memory for the events themselves, they are made once more.
@@ -82,24 +83,13 @@ fn made(alloc: Global, script: &[(&str, &str)]) -> Result<Vec<Event>, AllocError
     }
 }
 
-// These are the first replies to these lines.
-fn begin_so(replies: &[Reply], script: &[(&str, &str)]) -> bool {
-    replies.len() <= script.len()
-        && replies
-            .iter()
-            .zip(script)
-            .all(|(reply, (_, wanted))| says(reply, wanted))
-}
-
-// The replies of a run are those of the first lines. A line that there was no memory for is one that may ask for some,
-// or there was no room for the replies.
-fn goes_so(ran: &RunResult, script: &[(&str, &str)]) -> bool {
-    let replies = &ran.replies;
-    let is_right = match script.get(replies.len()) {
+// A run ends behind its last line, or at one that there was no memory for: that one may ask for some, or there was no
+// room for the replies.
+fn ends_right(ran: &RunResult, lines: &[(&str, &str)]) -> bool {
+    match lines.get(ran.replies.len()) {
         None => !ran.out_of_memory,
-        Some((line, _)) => { ran.out_of_memory && (may_ask(line) || replies.is_empty()) }
-    };
-    is_right && begin_so(replies, script)
+        Some((line, _)) => ran.out_of_memory && (may_ask(line) || ran.replies.is_empty()),
+    }
 }
 
 // The store answers so in one run or in several: each begins with the line that the run before had no memory for.
@@ -114,15 +104,17 @@ fn answers(
     let mut lines = script;
     for run in 0..MOST_RUNS {
         let ran = world.run(alloc, left);
+        for (reply, (line, wanted)) in ran.replies.iter().zip(lines) {
+            equal(rt, line, &text_of(reply, &mut [0; 64]), &Some(*wanted));
+        }
         holds(
             rt,
             &format_args!(
-                "run {run}: {} replies to {} lines, without memory: {}",
+                "run {run}: {} replies to {} lines",
                 ran.replies.len(),
-                lines.len(),
-                ran.out_of_memory,
+                lines.len()
             ),
-            goes_so(&ran, lines),
+            ends_right(&ran, lines),
         );
         left = left.get(ran.replies.len()..).unwrap_or(&[]);
         lines = lines.get(ran.replies.len()..).unwrap_or(&[]);

@@ -1,12 +1,11 @@
 //! Two nodes whose store stops, or whose disks fail, at any moment.
 ghost use Rattle.lc_disk.specs.When.{IsCountable};
 
-use crate::events::{STOPS, TWO_NODES, comes_up, event_of, events_of, play, text_of};
-use crate::expect::{equal, equal_lists, holds};
-use lc_core::{Event, Refusal, Reply, World};
-use lc_disk::{Fuse, MemArea, Stoppable, When};
+use crate::events::{STOPS, TWO_NODES, event_of, events_of, play, text_of};
+use crate::expect::{equal, holds};
+use lc_core::{CallFault, Event, Refusal, Reply, World};
+use lc_disk::{Fuse, MemArea, When};
 use std::alloc::{AllocError, Global};
-use std::fmt::Display;
 use std::process::Abort;
 use std::test::*;
 
@@ -80,7 +79,7 @@ pub(crate) const FLUSHED: usize = 42;
 const ORDINARY: [(u8, u8); 5] = [(0, 0), (0, 1), (3, 1), (3, 2), (4, 4)];
 
 // What the replies tell of the first bytes of both segments.
-#[derive(Drop)]
+#[derive(Clone, Copy)]
 struct Seen {
     faults: u64,
     // What is acknowledged of each of them.
@@ -90,28 +89,14 @@ struct Seen {
 }
 
 impl Seen {
-    fn nothing() -> Seen {
-        Seen {
-            faults: 0,
-            least: (0, 0),
-            also: (0, 0),
-        }
-    }
-
     fn note(&mut self, event: &Event, reply: &Reply) {
-        match reply {
-            Reply::Acked(count) => self.keep(event, *count),
-            Reply::Refused(Refusal::DeviceFault) => self.fail(event),
+        match (event, reply) {
+            (Event::FlushStep { node: 0 }, Reply::Acked(1)) => self.least.1 = 1,
+            (Event::FlushStep { node: 0 }, Reply::Acked(_)) => self.least.1 = 2,
+            (_, Reply::Acked(1)) => self.least.0 = 3,
+            (_, Reply::Acked(_)) => self.least = (4, 4),
+            (_, Reply::Refused(Refusal::DeviceFault)) => self.fail(event),
             _ => {}
-        }
-    }
-
-    fn keep(&mut self, event: &Event, count: u64) {
-        match (event, count) {
-            (Event::FlushStep { node: 0 }, 1) => self.least.1 = 1,
-            (Event::FlushStep { node: 0 }, _) => self.least.1 = 2,
-            (_, 1) => self.least.0 = 3,
-            _ => self.least = (4, 4),
         }
     }
 
@@ -131,156 +116,12 @@ impl Seen {
     }
 }
 
-// The first byte of a segment, which is the same at both nodes, with zeros after it.
-fn first_of<D: Stoppable + Drop>(
-    rt: &impl Abort,
-    row: &impl Display,
-    world: &World<D>,
-    segment: u32,
-) -> Result<u8, Fail> {
-    let page = world.page(0, segment, 0).ok().ok_or("the page is shown")?;
-    let other = world.page(1, segment, 0).ok().ok_or("the page is shown")?;
-    let (first, rest) = page.split_first().ok_or("a page has bytes")?;
-    equal_lists(rt, &format_args!("{row}, segment {segment}"), page, other);
-    equal_lists(
-        rt,
-        &format_args!("{row}, segment {segment}"),
-        rest,
-        &[0; 255],
-    );
-    Ok(*first)
-}
-
-// The first bytes of both segments.
-fn first_bytes<D: Stoppable + Drop>(
-    rt: &impl Abort,
-    row: &impl Display,
-    world: &World<D>,
-) -> Result<(u8, u8), Fail> {
-    Ok((first_of(rt, row, world, 1)?, first_of(rt, row, world, 2)?))
-}
-
-// Makes so many steps of a recovery, and tells whether the store is up then.
-fn recovers<D: Stoppable + Drop>(
-    alloc: Global,
-    world: &mut World<D>,
-    steps: u64,
-) -> Result<bool, AllocError> {
-    for _ in 0..steps {
-        if let Reply::Recovered = world.step(alloc, &Event::RecoverStep)? {
-            return Ok(true);
-        }
-    }
-    Ok(false)
-}
-
-// More steps than any of these recoveries has.
-const MOST_STEPS: u64 = 100;
-
-// The first bytes of a store that stops after these events, makes so many steps of its recovery, and stops again; and
-// whether those steps were all.
-fn stopped_twice(
-    rt: &impl Abort,
-    alloc: Global,
-    events: &[Event],
-    stop: &Event,
-    steps: u64,
-) -> Result<((u8, u8), bool), Fail> {
-    let mut world = World::in_memory(alloc, TWO_NODES)?;
-    comes_up(alloc, &mut world)?;
-    let ran = world.run(alloc, events);
-    let count = events.len();
-    holds(
-        rt,
-        &format_args!("{count} events, {steps} steps"),
-        !ran.out_of_memory,
-    );
-    world.step(alloc, stop)?;
-    let is_up = recovers(alloc, &mut world, steps)?;
-    world.step(alloc, stop)?;
-    comes_up(alloc, &mut world)?;
-    let row = format_args!("{count} events, {steps} steps");
-    Ok((first_bytes(rt, &row, &world)?, is_up))
-}
-
-// A store that stops after these events comes to the same where it is stopped again after any step of its recovery, the
-// last one too.
-fn comes_to_the_same(
-    rt: &impl Abort,
-    alloc: Global,
-    events: &[Event],
-    stop: &Event,
-    seen: &Seen,
-) -> Result<(), Fail> {
-    let (bytes, _is_up) = stopped_twice(rt, alloc, events, stop, 0)?;
-    let count = events.len();
-    holds(
-        rt,
-        &format_args!("{count} events: {bytes:?}, at least {:?}", seen.least),
-        seen.allows(bytes),
-    );
-    for steps in 1..MOST_STEPS {
-        let (again, is_up) = stopped_twice(rt, alloc, events, stop, steps)?;
-        equal(
-            rt,
-            &format_args!("{count} events, step {steps}"),
-            &again,
-            &bytes,
-        );
-        if is_up {
-            return Ok(());
-        }
-    }
-    Err(Fail::from("a recovery ends"))
-}
-
-// A stop by this line after each event.
-fn stops_anywhere(rt: &impl Abort, alloc: Global, stop: &str) -> Result<(), Fail> {
-    let stop = event_of(alloc, stop)?;
-    let events = events_of(alloc, &EVENTS)?;
-    let mut world = World::in_memory(alloc, TWO_NODES)?;
-    comes_up(alloc, &mut world)?;
-    let mut seen = Seen::nothing();
-    comes_to_the_same(rt, alloc, &[], &stop, &seen)?;
-    for (at, event) in events.iter().enumerate() {
-        let reply = world.step(alloc, event)?;
-        seen.note(event, &reply);
-        let before = events.get(..=at).ok_or("so many events")?;
-        comes_to_the_same(rt, alloc, before, &stop, &seen)?;
-    }
-    Ok(())
-}
-
-#[test]
-fn all_events_are_answered(rt: HostRuntime) -> Result<(), Fail> {
-    let mut world = World::in_memory(rt.alloc(), TWO_NODES)?;
-    comes_up(rt.alloc(), &mut world)?;
-    play(&rt, rt.alloc(), &mut world, &EVENTS)
-}
-
-#[test]
-fn a_stop_keeps_what_is_read(rt: HostRuntime) -> Result<(), Fail> {
-    stops_anywhere(&rt, rt.alloc(), "stop keep")
-}
-
-#[test]
-fn a_stop_leaves_what_is_stable(rt: HostRuntime) -> Result<(), Fail> {
-    stops_anywhere(&rt, rt.alloc(), "stop stable")
-}
-
-#[test]
-fn a_stop_leaves_zeros(rt: HostRuntime) -> Result<(), Fail> {
-    stops_anywhere(&rt, rt.alloc(), "stop 00")
-}
-
-#[test]
-fn a_stop_leaves_other_bytes(rt: HostRuntime) -> Result<(), Fail> {
-    stops_anywhere(&rt, rt.alloc(), "stop 7f")
-}
-
-#[test]
-fn a_stop_leaves_open_gates(rt: HostRuntime) -> Result<(), Fail> {
-    stops_anywhere(&rt, rt.alloc(), "stop a5")
+// The first byte of a segment, where both nodes have the same page and zeros stand after it.
+fn first_of(world: &World<Fuse>, segment: u32) -> Option<u8> {
+    let page = world.page(0, segment, 0).ok()?;
+    let other = world.page(1, segment, 0).ok()?;
+    let (first, rest) = page.split_first()?;
+    (page == other && rest == [0; 255].as_slice()).then_some(*first)
 }
 
 // The areas of two logs and of two segments, of which one fails so.
@@ -298,8 +139,8 @@ fn areas_with(alloc: Global, failing: u32, when: When) -> Result<Vec<Fuse>, Allo
     Ok(areas)
 }
 
-/// A store of zeros that is down, of which one area fails so.
-pub(crate) fn down_with(alloc: Global, failing: u32, when: When) -> Result<World<Fuse>, Fail>
+// A store of zeros that is down, of which one area fails so.
+fn down_with(alloc: Global, failing: u32, when: When) -> Result<World<Fuse>, Fail>
     requires { IsCountable when }
 {
     match World::new(TWO_NODES, areas_with(alloc, failing, when)?) {
@@ -308,67 +149,174 @@ pub(crate) fn down_with(alloc: Global, failing: u32, when: When) -> Result<World
     }
 }
 
-// The steps of a recovery, which a fault begins again. What they are answered is noted.
-fn comes_up_again(alloc: Global, world: &mut World<Fuse>, seen: &mut Seen) -> Result<(), Fail> {
-    for _ in 0..MOST_STEPS {
-        let reply = world.step(alloc, &Event::RecoverStep)?;
-        seen.note(&Event::RecoverStep, &reply);
-        if let Reply::Recovered = reply {
+// A recovery, which a fault begins again.
+fn comes_up(alloc: Global, world: &mut World<Fuse>, seen: &mut Seen) -> Result<(), Fail> {
+    for _ in 0..3 {
+        match world.recover(alloc) {
+            Ok(()) => return Ok(()),
+            Err(CallFault::Refused(Refusal::DeviceFault)) => {
+                seen.faults = seen.faults.saturating_add(1);
+            }
+            Err(_) => {}
+        }
+    }
+    Err(Fail::from("a recovery ends"))
+}
+
+// Makes so many steps of a recovery, and tells whether the store is up then.
+fn recovers(alloc: Global, world: &mut World<Fuse>, steps: u64) -> Result<bool, AllocError> {
+    for _ in 0..steps {
+        if let Reply::Recovered = world.step(alloc, &Event::RecoverStep)? {
+            return Ok(true);
+        }
+    }
+    Ok(false)
+}
+
+// The events of a store, the stop behind them, and which call of which area fails, none where it is 0.
+#[derive(Clone, Copy)]
+struct Life<'a> {
+    events: &'a [Event],
+    line: &'a str,
+    stop: &'a Event,
+    area: u32,
+    call: u32,
+}
+
+// What has become of a store: whether the steps of its recovery were all, and the first bytes of its segments.
+#[derive(Clone, Copy)]
+struct Outcome {
+    was_up: bool,
+    bytes: (u8, u8),
+    faults: u64,
+}
+
+// Runs these events, notes their replies, and tells how many there are.
+fn runs(alloc: Global, world: &mut World<Fuse>, events: &[Event], seen: &mut Seen) -> usize {
+    let ran = world.run(alloc, events);
+    for (event, reply) in events.iter().zip(&ran.replies) {
+        seen.note(event, reply);
+    }
+    ran.replies.len()
+}
+
+// A store that is stopped after its events, makes so many steps of its recovery, is stopped again and comes up. It has
+// bytes that its replies allow.
+fn outlives(
+    rt: &impl Abort,
+    alloc: Global,
+    life: Life<'_>,
+    steps: u64,
+    world: &mut World<Fuse>,
+) -> Result<Outcome, Fail> {
+    let mut seen = Seen {
+        faults: 0,
+        least: (0, 0),
+        also: (0, 0),
+    };
+    comes_up(alloc, world, &mut seen)?;
+    let answered = runs(alloc, world, life.events, &mut seen);
+    world.step(alloc, life.stop)?;
+    let was_up = recovers(alloc, world, steps)?;
+    world.step(alloc, life.stop)?;
+    comes_up(alloc, world, &mut seen)?;
+    let (Some(first), Some(second)) = (first_of(world, 1), first_of(world, 2)) else {
+        return Err(Fail::from("both nodes have the same pages, with one byte"));
+    };
+    let bytes = (first, second);
+    holds(
+        rt,
+        &format_args!(
+            "{answered} events, {}, {steps} steps, call {} of {}: {bytes:?}, at least {:?}",
+            life.line, life.call, life.area, seen.least,
+        ),
+        seen.allows(bytes) && seen.faults <= 1 && answered == life.events.len(),
+    );
+    Ok(Outcome {
+        was_up,
+        bytes,
+        faults: seen.faults,
+    })
+}
+
+// The same of a new store.
+fn lived(rt: &impl Abort, alloc: Global, life: Life<'_>, steps: u64) -> Result<Outcome, Fail> {
+    let mut world = down_with(alloc, life.area, When::At(u64::from(life.call)))?;
+    outlives(rt, alloc, life, steps, &mut world)
+}
+
+// More steps than any of these recoveries has.
+const MOST_STEPS: u64 = 100;
+
+// A store comes to the same where it is stopped again after any step of its recovery, the last one too.
+fn comes_to_the_same(rt: &impl Abort, alloc: Global, life: Life<'_>) -> Result<(), Fail> {
+    let first = lived(rt, alloc, life, 0)?;
+    for steps in 1..MOST_STEPS {
+        let again = lived(rt, alloc, life, steps)?;
+        equal(
+            rt,
+            &format_args!("{} events, {}, step {steps}", life.events.len(), life.line),
+            &again.bytes,
+            &first.bytes,
+        );
+        if again.was_up {
             return Ok(());
         }
     }
     Err(Fail::from("a recovery ends"))
 }
 
-// This call of this area fails, and the stop is that of this line; how many faults are seen in all events, a stop and a
-// recovery.
-fn fails_once(
-    rt: &impl Abort,
-    alloc: Global,
-    events: &[Event],
-    line: &str,
-    stop: &Event,
-    area: u32,
-    call: u32,
-) -> Result<u64, Fail> {
-    let mut world = down_with(alloc, area, When::At(u64::from(call)))?;
-    let mut seen = Seen::nothing();
-    comes_up_again(alloc, &mut world, &mut seen)?;
-    for event in events {
-        let reply = world.step(alloc, event)?;
-        seen.note(event, &reply);
+// A stop by this line after each event.
+fn stops_anywhere(rt: &impl Abort, alloc: Global, line: &str) -> Result<(), Fail> {
+    let stop = event_of(alloc, line)?;
+    let events = events_of(alloc, &EVENTS)?;
+    for count in 0..=events.len() {
+        let life = Life {
+            events: &events[..count],
+            line,
+            stop: &stop,
+            area: 0,
+            call: 0,
+        };
+        comes_to_the_same(rt, alloc, life)?;
     }
-    world.step(alloc, stop)?;
-    comes_up_again(alloc, &mut world, &mut seen)?;
-    let row = format_args!("{line}, call {call} of {area}");
-    let bytes = first_bytes(rt, &row, &world)?;
-    holds(
-        rt,
-        &format_args!(
-            "{line}, call {call} of {area}: {bytes:?}, at least {:?}",
-            seen.least
-        ),
-        seen.allows(bytes),
-    );
-    holds(
-        rt,
-        &format_args!("{line}, call {call} of {area}: {} faults", seen.faults),
-        seen.faults <= 1,
-    );
-    Ok(seen.faults)
+    Ok(())
 }
 
-// Each call of this area fails in turn.
+#[test]
+fn all_events_are_answered(rt: HostRuntime) -> Result<(), Fail> {
+    let mut world = World::in_memory(rt.alloc(), TWO_NODES)?;
+    crate::events::comes_up(rt.alloc(), &mut world)?;
+    play(&rt, rt.alloc(), &mut world, &EVENTS)
+}
+
+#[test]
+fn a_stop_anywhere_keeps_what_is_acknowledged(rt: HostRuntime) -> Result<(), Fail> {
+    for line in STOPS {
+        stops_anywhere(&rt, rt.alloc(), line)?;
+    }
+    Ok(())
+}
+
+// Each call of this area fails in turn, up to a run without a fault.
 fn fails_anywhere(
     rt: &impl Abort,
     alloc: Global,
     events: &[Event],
     line: &str,
-    stop: &Event,
     area: u32,
 ) -> Result<(), Fail> {
+    let stop = event_of(alloc, line)?;
     for call in 1..1000 {
-        if fails_once(rt, alloc, events, line, stop, area, call)? == 0 {
+        let life = Life {
+            events,
+            line,
+            stop: &stop,
+            area,
+            call,
+        };
+        if lived(rt, alloc, life, 0)?.faults == 0 {
+            holds(rt, &"the first call fails", call > 1);
             return Ok(());
         }
     }
@@ -379,9 +327,8 @@ fn fails_anywhere(
 fn one_call_of_an_area_fails(rt: HostRuntime) -> Result<(), Fail> {
     let events = events_of(rt.alloc(), &EVENTS)?;
     for line in STOPS {
-        let stop = event_of(rt.alloc(), line)?;
         for area in 0..AREAS {
-            fails_anywhere(&rt, rt.alloc(), &events, line, &stop, area)?;
+            fails_anywhere(&rt, rt.alloc(), &events, line, area)?;
         }
     }
     Ok(())
@@ -438,25 +385,31 @@ fn recovers_by(
     Ok(false)
 }
 
-// This area fails after so many calls, `before` of which are made before the store is stopped with four commits in its
-// logs. Tells whether it comes up again.
+// An area of this store fails after so many calls, `before` of which are made before the store is stopped with four
+// commits in its logs. Tells whether it comes up again.
 fn fails_from(
     rt: &impl Abort,
     alloc: Global,
+    world: &mut World<Fuse>,
     area: u32,
     well: u32,
     before: u32,
 ) -> Result<bool, Fail> {
-    let mut world = down_with(alloc, area, When::From(u64::from(well) + 1))?;
-    if !recovers_by(rt, alloc, &mut world, &OF_ZEROS, area, well)? {
+    if !recovers_by(rt, alloc, world, &OF_ZEROS, area, well)? {
         return Ok(false);
     }
     for (line, _) in &EVENTS[..FLUSHED] {
         world.step(alloc, &event_of(alloc, line)?)?;
     }
-    play(rt, alloc, &mut world, &[("stop keep", "down")])?;
-    let well = well.saturating_sub(before);
-    recovers_by(rt, alloc, &mut world, &OF_TWO_PAGES, area, well)
+    play(rt, alloc, world, &[("stop keep", "down")])?;
+    recovers_by(
+        rt,
+        alloc,
+        world,
+        &OF_TWO_PAGES,
+        area,
+        well.saturating_sub(before),
+    )
 }
 
 // Of each area: how many calls are made before the stop, and how many there are with those of the recovery after it.
@@ -466,7 +419,8 @@ const CALLS: [(u32, u32, u32); 4] = [(0, 12, 16), (1, 12, 16), (2, 2, 10), (3, 2
 fn an_area_that_fails_for_good_keeps_the_store_down(rt: HostRuntime) -> Result<(), Fail> {
     for (area, before, all) in CALLS {
         for well in 0..=all {
-            let is_up = fails_from(&rt, rt.alloc(), area, well, before)?;
+            let mut world = down_with(rt.alloc(), area, When::From(u64::from(well) + 1))?;
+            let is_up = fails_from(&rt, rt.alloc(), &mut world, area, well, before)?;
             equal(
                 &rt,
                 &format_args!("{well} calls of {area}"),

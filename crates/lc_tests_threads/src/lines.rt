@@ -3,7 +3,7 @@ ghost use Rattle.std.specs.Prelude.{◌≡◌};
 ghost use Rattle.lc_line.specs.Ends.{line_to, line_from};
 
 use crate::expect::equal;
-use lc_line::{ROOM, RecvEnd, Refused, SendEnd, close_line, open_line};
+use lc_line::{ROOM, RecvEnd, Refused, SendEnd, open_line};
 use std::process::Abort;
 use std::sync::Wait;
 use std::test::Fail;
@@ -91,20 +91,6 @@ fn messages_cross_threads_in_order(rt: HostRuntime) -> Result<(), Fail> {
         move || take_all(host, from),
     );
     assert!(rt; counts == (MESSAGES, MESSAGES));
-    Ok(())
-}
-
-#[test]
-fn a_closed_line_hands_out_the_rest(rt: HostRuntime) -> Result<(), Fail> {
-    let (mut to, mut from) = open_line(rt.alloc())?;
-    sends(&rt, &mut to, 7, Ok(()));
-    sends(&rt, &mut to, 8, Ok(()));
-    sends(&rt, &mut to, 9, Ok(()));
-    takes(&rt, &mut from, Some(7));
-    let mut rest = close_line(to, from);
-    equal(&rt, &"the first of the rest", &rest.take(&rt), &Some(8));
-    equal(&rt, &"the second of the rest", &rest.take(&rt), &Some(9));
-    equal(&rt, &"the end", &rest.take(&rt), &None);
     Ok(())
 }
 

@@ -3,6 +3,7 @@ ghost use Rattle.std.specs.Prelude.{◌≡◌, ◌+◌};
 ghost use Rattle.lc_lock.specs.Loans.{key_of, IsLoanOf};
 
 use lc_lock::{Keyed, Loan, TicketLock};
+use std::alloc::Global;
 use std::hint::spin_loop;
 use std::process::Abort;
 use std::rt::Clock;
@@ -73,6 +74,18 @@ fn plus_one(tally: Tally) -> Tally
     }
 }
 
+// A lock that keeps 7, with no addition.
+fn new_lock(alloc: Global) -> Result<TicketLock<Tally, u64>, Fail> {
+    let tally = Tally {
+        total: 7,
+        additions: 0,
+    };
+    match TicketLock::new(alloc, tally, &7) {
+        Ok(lock) => Ok(lock),
+        Err(_) => Err(Fail::from("there is memory for a lock")),
+    }
+}
+
 fn add_all<R: Wait>(rt: &R, lock: &TicketLock<Tally, u64>) {
     for _ in 0..ADDITIONS {
         let (tally, loan) = lock.lock(rt);
@@ -111,32 +124,6 @@ fn add_by_lengths<R: Wait>(rt: &R, lock: &TicketLock<Tally, u64>, passed: &Atomi
         }
         passed.fetch_add(1, Ordering::SeqCst);
         lock.unlock(plus_one(tally), loan);
-    }
-}
-
-// Adds 1 where it gets the lock at once, and answers whether it did.
-fn add_at_once(lock: &TicketLock<Tally, u64>) -> bool {
-    match lock.try_lock() {
-        Some((tally, loan)) => {
-            lock.unlock_silently(plus_one(tally), loan);
-            true
-        }
-        None => false,
-    }
-}
-
-// Tries until it has added as often as `add_all` does.
-fn add_all_by_tries<R: Wait>(rt: &R, lock: &TicketLock<Tally, u64>) {
-    let mut missing = ADDITIONS;
-    for _ in rt.forever() {
-        if missing == 0 {
-            return;
-        }
-        if add_at_once(lock) {
-            missing -= 1;
-        } else {
-            yield_now();
-        }
     }
 }
 
@@ -218,13 +205,7 @@ fn bring<R: Wait>(rt: &R, bringer: Bringer, tickets: u32) {
 
 #[test]
 fn no_addition_is_lost(rt: HostRuntime) -> Result<(), Fail> {
-    let tally = Tally {
-        total: 7,
-        additions: 0,
-    };
-    let Ok(lock) = TicketLock::new(rt.alloc(), tally, &7) else {
-        return Err(Fail::from("there is memory for a lock"));
-    };
+    let lock = new_lock(rt.alloc())?;
     let shared = &lock;
     let host = &rt;
     map_indices(&rt, rt.alloc(), THREADS, &|_| add_all(host, shared))?;
@@ -233,62 +214,10 @@ fn no_addition_is_lost(rt: HostRuntime) -> Result<(), Fail> {
     Ok(())
 }
 
-// Who only tries waits for nobody, and nobody has to wake it.
-#[test]
-fn no_addition_by_a_try_is_lost(rt: HostRuntime) -> Result<(), Fail> {
-    let tally = Tally {
-        total: 7,
-        additions: 0,
-    };
-    let Ok(lock) = TicketLock::new(rt.alloc(), tally, &7) else {
-        return Err(Fail::from("there is memory for a lock"));
-    };
-    let shared = &lock;
-    let host = &rt;
-    map_indices(
-        &rt,
-        rt.alloc(),
-        THREADS,
-        &|_| add_all_by_tries(host, shared),
-    )?;
-    assert!(rt; look(&rt, &lock) == (40_007, 40_000));
-    assert!(rt; lock.tickets_out() == 0);
-    Ok(())
-}
-
-// A try that fails draws no ticket.
-#[test]
-fn a_try_takes_the_value_where_no_ticket_is_out(rt: HostRuntime) -> Result<(), Fail> {
-    let (lock, loan): (TicketLock<Tally, u64>, Loan<Tally, u64>) = TicketLock::vacant(
-        rt.alloc(),
-        &7,
-    )?;
-    let bringer = Bringer { lock: &lock, loan };
-    assert!(rt; !add_at_once(&lock));
-    assert!(rt; lock.tickets_out() == 1);
-    drop(bringer);
-    assert!(rt; add_at_once(&lock));
-    let (tally, loan) = lock.lock(&rt);
-    let is_added = add_at_once(&lock);
-    let tickets = lock.tickets_out();
-    lock.unlock(tally, loan);
-    assert!(rt; !is_added && tickets == 1);
-    assert!(rt; add_at_once(&lock));
-    assert!(rt; look(&rt, &lock) == (9, 2));
-    assert!(rt; lock.tickets_out() == 0);
-    Ok(())
-}
-
 // Most of the crowd sleep at any time. Where a wake is lost nobody goes on.
 #[test]
 fn no_wake_is_lost_in_a_crowd(rt: HostRuntime) -> Result<(), Fail> {
-    let tally = Tally {
-        total: 7,
-        additions: 0,
-    };
-    let Ok(lock) = TicketLock::new(rt.alloc(), tally, &7) else {
-        return Err(Fail::from("there is memory for a lock"));
-    };
+    let lock = new_lock(rt.alloc())?;
     let passed = AtomicU64::new(0);
     let shared = &lock;
     let count = &passed;
@@ -312,13 +241,7 @@ fn no_wake_is_lost_in_a_crowd(rt: HostRuntime) -> Result<(), Fail> {
 // Who falls asleep while its ticket is served is woken all the same.
 #[test]
 fn no_wake_is_lost_where_a_thread_falls_asleep(rt: HostRuntime) -> Result<(), Fail> {
-    let tally = Tally {
-        total: 7,
-        additions: 0,
-    };
-    let Ok(lock) = TicketLock::new(rt.alloc(), tally, &7) else {
-        return Err(Fail::from("there is memory for a lock"));
-    };
+    let lock = new_lock(rt.alloc())?;
     let passed = AtomicU64::new(0);
     let shared = &lock;
     let count = &passed;

@@ -183,16 +183,11 @@ fn two_seats(rt: HostRuntime) -> Result<(), Fail> {
     assert!(rt; stage.tail(&mut second) == 19);
     assert!(rt; stage.take(&mut flusher, &mut group) == 0 && group.is_empty());
     close_eight(&stage, &mut first, 1);
-    let Some(log) = settle(&stage, &mut flusher, &mut group, log) else {
-        assert!(rt; false);
-        return Ok(());
-    };
+    let log = settle(&stage, &mut flusher, &mut group, log);
+    assert!(rt; log.is_some(), "the log takes both");
     assert!(rt; has_both(&group));
     let mut first = stage.meet(&mut flusher, first);
-    let Some(receipt) = stage.durable(&mut first) else {
-        assert!(rt; false);
-        return Ok(());
-    };
+    let receipt = stage.durable(&mut first).expect(&rt, "it is stable");
     assert!(rt; is_for(&receipt, 0));
     assert!(rt; stage.take(&mut flusher, &mut group) == 0);
     Ok(())
@@ -259,10 +254,7 @@ fn what_is_closed_behind_an_open_record_waits_for_it(rt: HostRuntime) -> Result<
     assert!(rt; stage.take(&mut flusher, &mut group) == 0 && group.is_empty());
     assert!(rt; stage.durable(&mut second).is_none());
     close_eight(&stage, &mut first, 1);
-    let Some(log) = settle(&stage, &mut flusher, &mut group, log) else {
-        assert!(rt; false);
-        return Ok(());
-    };
+    let log = settle(&stage, &mut flusher, &mut group, log).expect(&rt, "the log takes both");
     assert!(rt; log.end == 16 && has_eights(&group));
     assert!(rt; are_durable(&stage, &mut first, &mut second));
     Ok(())
@@ -310,26 +302,6 @@ fn a_round_is_cleared_and_the_next_opened(rt: HostRuntime) -> Result<(), Fail> {
     assert!(rt; stage.reserve(&mut third, sealed, 8) == Err(StageFault::Sealed));
     stage.clear(&mut flusher);
     assert!(rt; stage.reopen(&mut flusher).is_ok());
-    assert!(rt; stage.tail(&mut third) == 65536);
-    Ok(())
-}
-
-#[test]
-fn the_tail_stays_where_the_ended_round_is_cleared(rt: HostRuntime) -> Result<(), Fail> {
-    let (stage, mut flusher, mut first) = Stage::new(rt.alloc(), 64)?;
-    let mut group = Group::new(rt.alloc(), 64)?;
-    let log = begun(MemArea::new(rt.alloc(), 520)?);
-    let mut second = stage.split(&mut first);
-    let mut third = stage.split(&mut first);
-    assert!(rt; nineteen(&stage, &mut first, &mut second));
-    assert!(rt; end_nineteen(&stage, &mut flusher, &mut third, &mut group, log));
-    assert!(rt; has_both(&group));
-    let sealed = stage.tail(&mut third);
-    assert!(rt; sealed == 32787);
-    assert!(rt; stage.reserve(&mut third, sealed, 8) == Err(StageFault::Sealed));
-    assert!(rt; stage.reopen(&mut flusher).is_ok());
-    assert!(rt; stage.tail(&mut third) == 65536);
-    stage.clear(&mut flusher);
     assert!(rt; stage.tail(&mut third) == 65536);
     Ok(())
 }
@@ -426,28 +398,11 @@ fn one_thread_reserves_while_another_is_held(rt: HostRuntime) -> Result<(), Fail
             ensures { IfSome result (λ s. IsSeatOf shared.entry.now s × IsIdle (commit_view s)) }
         { close_behind(shared, second) },
     );
-    let Some(mut first) = first else {
-        assert!(rt; false);
-        return Ok(());
-    };
-    let Some(mut second) = second else {
-        assert!(rt; false);
-        return Ok(());
-    };
-    let Some(_) = settle(&stage, &mut flusher, &mut group, log) else {
-        assert!(rt; false);
-        return Ok(());
-    };
+    let mut first = first.expect(&rt, "the first closes its words");
+    let mut second = second.expect(&rt, "and the second");
+    let log = settle(&stage, &mut flusher, &mut group, log);
+    assert!(rt; log.is_some(), "the log takes both");
     assert!(rt; group.len() == 16);
-    let Some(early) = stage.durable(&mut first) else {
-        assert!(rt; false);
-        return Ok(());
-    };
-    assert!(rt; is_for(&early, 0));
-    let Some(late) = stage.durable(&mut second) else {
-        assert!(rt; false);
-        return Ok(());
-    };
-    assert!(rt; is_for(&late, 8));
+    assert!(rt; are_durable(&stage, &mut first, &mut second));
     Ok(())
 }

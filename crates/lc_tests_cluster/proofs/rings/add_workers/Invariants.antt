@@ -1,5 +1,0 @@
-use Rattle.lc_stage.specs.Seats.{commit_view, IsSeatOf, IsIdle}
-use Rattle.lc_tests_cluster.proofs.rings.add_workers.Given as goal
-
-abbrev pub invariant-loop-index : goal.invariant-loop-index
-invariant-loop-index l = IsSeatOf l.node.stage l.seat × IsIdle (commit_view l.seat)

@@ -1,5 +1,0 @@
-use Rattle.std.proofs.Common.{◌≡◌}
-use Rattle.lc_tests_disk.proofs.tokens.many_records_in_descending_order.Given as goal
-
-abbrev pub invariant-loop-seq : goal.invariant-loop-seq
-invariant-loop-seq g l = l.hold_back.segment ≡ 1
