@@ -21,8 +21,7 @@
    not be, are LCRVM_MISUSE.
 
    Threads. Each call may come from any thread, but none on a store after its lcrvm_close has begun. A transaction is
-   used by one thread at a time, and stays open where its thread ends. Of a store of one node, transactions set, write,
-   read and commit side by side; of one of several, one after another. Threads that flush at once share one flush, and
+   used by one thread at a time, and stays open where its thread ends. Threads that flush at once share one flush, and
    others commit in memory while it waits for the device. What a transaction reads may be of a commit that is not
    stable yet: an end with `flush` makes stable all that it may have seen. No thread may be cancelled within a call.
 
@@ -33,9 +32,9 @@
 
    Signals. No call may come from a signal's handler. A call that a signal interrupts goes on.
 
-   Memory. lcrvm_create, lcrvm_open and lcrvm_copy take memory; lcrvm_set_range, lcrvm_put, lcrvm_truncate,
-   lcrvm_deliver and commits may. Of a store of several nodes, where a log was emptied beside a transaction, its next
-   set_range, put, write, read or commit may too. All that a store has taken is given back by lcrvm_close. */
+   Memory. lcrvm_create, lcrvm_open and lcrvm_copy take memory; lcrvm_set_range, lcrvm_put, lcrvm_deliver and commits
+   may. Of a transaction beside which a log was emptied the next set_range, put, write, read or commit may too. All
+   that a store has taken is given back by lcrvm_close. */
 #ifndef LCRVM_H
 #define LCRVM_H
 
@@ -241,9 +240,9 @@ enum lcrvm_status lcrvm_abort_transaction(struct lcrvm_store *store, uint32_t no
 enum lcrvm_status lcrvm_flush(struct lcrvm_store *store, uint32_t node, uint64_t *records);
 
 /* Flushes the node's log, writes its pages and empties the log; `rounds`, which may be NULL, is how often it was
-   emptied since the store was opened. UNKNOWN, UNCOMMITTED, UNFLUSHED, UNCLEAN, ROUNDS_SPENT, NO_MEMORY. What was done
-   before the refusal stays done. UNCOMMITTED, of a store of several nodes alone, where an open transaction has a range
-   on a page that is to be written: then it has flushed. */
+   emptied since the store was opened. UNKNOWN, UNCOMMITTED, UNFLUSHED, UNCLEAN, ROUNDS_SPENT. What was done before
+   the refusal stays done; of UNCOMMITTED, where an open transaction has a range on a page that is to be written,
+   that is the flush alone. */
 enum lcrvm_status lcrvm_truncate(struct lcrvm_store *store, uint32_t node, uint64_t *rounds);
 
 /* Drops the node's stable records that all nodes have applied; `count`, which may be NULL, is how many these were.

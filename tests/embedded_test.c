@@ -1212,10 +1212,12 @@ static void test_full_where_another_has_ranges(const char *folder)
     ANSWERS(lcrvm_set_range(store, 0, 1, 2, 900, 8), LCRVM_OK);
     ANSWERS(lcrvm_write(store, 0, 1, 2, 902, "open", 4), LCRVM_OK);
     ANSWERS(lcrvm_set_range(store, 0, 1, 2, 100, 1), LCRVM_OK);
+    ANSWERS(lcrvm_truncate(store, 0, NULL), LCRVM_UNCOMMITTED);
     ANSWERS(begin(store, 0, 0, 1), LCRVM_OK);
     put_two(store, 0, 1);
     ANSWERS(lcrvm_end_transaction(store, 0, 0, false, &placed), LCRVM_OK);
     CHECK(placed.place == 0 && placed.words == TWO_RANGES);
+    CHECK(lcrvm_fault_of(store)->status == LCRVM_UNCOMMITTED);
     CHECK(holds(store, 0, 1, 0, "first") && holds(store, 0, 1, 40, "second"));
     ANSWERS(begin(store, 0, 0, 2), LCRVM_BUSY);
     ANSWERS(lcrvm_begin_transaction(store, 0, 1, NULL, 0, NULL, 0), LCRVM_OUT_OF_TURN);
@@ -1300,8 +1302,8 @@ struct held {
 
 static void hold(const char *folder, struct held *held)
 {
-    held->lens[0] = read_bytes(below(folder, "seg2"), held->bytes[0]);
-    held->lens[1] = read_bytes(below(folder, "seg4"), held->bytes[1]);
+    held->lens[0] = read_bytes(below(folder, "seg1"), held->bytes[0]);
+    held->lens[1] = read_bytes(below(folder, "seg2"), held->bytes[1]);
 }
 
 static bool is_held(const char *folder, const struct held *held)
@@ -1313,21 +1315,20 @@ static bool is_held(const char *folder, const struct held *held)
            memcmp(held->bytes[1], now.bytes[1], held->lens[1]) == 0;
 }
 
-/* Of several nodes a truncation with an open range on a page that is to be written writes none, also none in front of
-   it, and flushes; a range on another page is in nobody's way. At node 0 are the segments 2 and 4. */
+/* A truncation with an open range on a page that is to be written writes none, also none in front of it, and
+   flushes; a range on another page is in nobody's way. */
 static void test_uncommitted(const char *folder)
 {
-    static const struct lcrvm_geometry size = {2, 2, 4, 4, 64};
-    static const uint32_t second[] = {4};
+    static const uint32_t second[] = {2};
     static struct held held;
-    struct lcrvm_store *store = made_as(folder, &size);
+    struct lcrvm_store *store = made_as(folder, &one);
     char log[MOST_BYTES];
     uint64_t rounds = 7;
 
-    ANSWERS(commit(store, 0, 2, 508, "bytes"), LCRVM_OK);
-    ANSWERS(commit(store, 0, 4, 600, "second"), LCRVM_OK);
+    ANSWERS(commit(store, 0, 1, 508, "bytes"), LCRVM_OK);
+    ANSWERS(commit(store, 0, 2, 600, "second"), LCRVM_OK);
     ANSWERS(lcrvm_begin_transaction(store, 0, 1, second, 1, NULL, 0), LCRVM_OK);
-    ANSWERS(lcrvm_set_range(store, 0, 1, 4, 767, 1), LCRVM_OK);
+    ANSWERS(lcrvm_set_range(store, 0, 1, 2, 767, 1), LCRVM_OK);
     hold(folder, &held);
     ANSWERS(lcrvm_truncate(store, 0, &rounds), LCRVM_UNCOMMITTED);
     CHECK(rounds == 7 && lcrvm_fault_of(store)->status == LCRVM_UNCOMMITTED);
@@ -1335,56 +1336,18 @@ static void test_uncommitted(const char *folder)
     CHECK(read_bytes(below(folder, "log0"), log) == 65 * 8 && (unsigned char)log[0] == 0xa5);
     ANSWERS(lcrvm_abort_transaction(store, 0, 1), LCRVM_OK);
     ANSWERS(lcrvm_begin_transaction(store, 0, 1, second, 1, NULL, 0), LCRVM_OK);
-    ANSWERS(lcrvm_set_range(store, 0, 1, 4, 768, 1), LCRVM_OK);
-    ANSWERS(lcrvm_set_range(store, 0, 1, 4, 511, 1), LCRVM_OK);
+    ANSWERS(lcrvm_set_range(store, 0, 1, 2, 768, 1), LCRVM_OK);
+    ANSWERS(lcrvm_set_range(store, 0, 1, 2, 511, 1), LCRVM_OK);
     ANSWERS(lcrvm_truncate(store, 0, &rounds), LCRVM_OK);
     CHECK(rounds == 1 && !is_held(folder, &held));
     /* The pages are clean now, and are not written again. */
     hold(folder, &held);
-    ANSWERS(lcrvm_set_range(store, 0, 1, 4, 600, 1), LCRVM_OK);
+    ANSWERS(lcrvm_set_range(store, 0, 1, 2, 600, 1), LCRVM_OK);
     ANSWERS(lcrvm_truncate(store, 0, &rounds), LCRVM_OK);
     CHECK(rounds == 1 && is_held(folder, &held));
     close_well(store);
-    store = opened_as(folder, &size);
-    CHECK(holds(store, 0, 2, 508, "bytes") && holds(store, 0, 4, 600, "second"));
-    close_well(store);
-}
-
-/* Of one node a truncation goes on beside an open transaction: it writes what was committed alone. */
-static void test_truncates_beside_ranges(const char *folder)
-{
-    static const uint32_t second[] = {2};
-    struct lcrvm_store *store = made_as(folder, &one), *copy;
-    char path[BESIDE_BYTES], bytes[6];
-    uint64_t rounds = 7;
-
-    ANSWERS(commit(store, 0, 2, 600, "second"), LCRVM_OK);
-    ANSWERS(lcrvm_begin_transaction(store, 0, 1, second, 1, NULL, 0), LCRVM_OK);
-    ANSWERS(lcrvm_set_range(store, 0, 1, 2, 600, 6), LCRVM_OK);
-    ANSWERS(lcrvm_write(store, 0, 1, 2, 600, "opened", 6), LCRVM_OK);
-    ANSWERS(lcrvm_truncate(store, 0, &rounds), LCRVM_OK);
-    CHECK(rounds == 1);
-    beside(folder, "copy", path);
-    ANSWERS(lcrvm_copy(store, path), LCRVM_OK);
-    copy = opened_as(path, &one);
-    CHECK(holds(copy, 0, 2, 600, "second"));
-    close_well(copy);
-    ANSWERS(lcrvm_read(store, 0, 1, 2, 600, bytes, 6), LCRVM_OK);
-    CHECK(memcmp(bytes, "opened", 6) == 0);
-    ANSWERS(lcrvm_write(store, 0, 1, 2, 599, "x", 1), LCRVM_NO_RANGE);
-    ANSWERS(lcrvm_end_transaction(store, 0, 1, false, NULL), LCRVM_OK);
-    CHECK(holds(store, 0, 2, 600, "opened"));
-    /* What is aborted after a truncation is as it was before. */
-    ANSWERS(lcrvm_begin_transaction(store, 0, 1, second, 1, NULL, 0), LCRVM_OK);
-    ANSWERS(lcrvm_set_range(store, 0, 1, 2, 602, 2), LCRVM_OK);
-    ANSWERS(lcrvm_write(store, 0, 1, 2, 602, "xx", 2), LCRVM_OK);
-    ANSWERS(lcrvm_truncate(store, 0, &rounds), LCRVM_OK);
-    CHECK(rounds == 2);
-    ANSWERS(lcrvm_abort_transaction(store, 0, 1), LCRVM_OK);
-    CHECK(holds(store, 0, 2, 600, "opened"));
-    close_well(store);
     store = opened_as(folder, &one);
-    CHECK(holds(store, 0, 2, 600, "opened"));
+    CHECK(holds(store, 0, 1, 508, "bytes") && holds(store, 0, 2, 600, "second"));
     close_well(store);
 }
 
@@ -2018,7 +1981,6 @@ static const struct {
     {"full_and_refused", test_full_where_the_truncation_is_refused},
     {"full_and_long", test_full_where_it_does_not_help},
     {"uncommitted", test_uncommitted},
-    {"truncates_beside_ranges", test_truncates_beside_ranges},
     {"tokens", test_pages_go_with_tokens},
     {"syncs", test_syncs_of_a_truncation},
     {"trimmed", test_trimmed},

@@ -347,15 +347,6 @@ class Errors(Case):
                 t.write(1, offset, b"x")
             with self.raises(lcrvm.TooManyRanges):
                 t.write(1, 128, b"x")
-            self.assertEqual(store.truncate(), 1)
-
-    def test_a_page_of_several_nodes_that_is_open(self) -> None:
-        store = self.opened(TWO_NODES)
-        for _ in range(2):
-            with store.transaction(2, durable=False) as t:
-                t.write(2, 0, b"x")
-        with store.transaction(2) as t:
-            t.set_range(2, 0, 1)
             with self.raises(lcrvm.Uncommitted):
                 store.truncate()
 

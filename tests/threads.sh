@@ -127,18 +127,13 @@ sanitized() {
     fi
     compile "_$kind" $flags
     tries "threads_$kind" commits 60
-    for mode in crowd waits ends; do tries "threads_$kind" $mode; done
-    # In a child of fork the heap of the address sanitizer may be locked by a thread that is not there.
-    [ "$kind" = address ] || tries "threads_$kind" forks
+    for mode in crowd waits ends forks; do tries "threads_$kind" $mode; done
     tries "threads_$kind" faults 4
     tries "threads_$kind" copies 10
     tries "threads_$kind" cuts 20
     [ "$kind" = thread ] || tries "embedded_$kind" calls
 }
 
-# The library is not compiled by the sanitizer, which so sees what it copies, and not the locks that it takes for that.
-printf 'race:^lc_\n' > "$work/unseen_locks"
-export TSAN_OPTIONS="suppressions=$work/unseen_locks"
 sanitized thread -fsanitize=thread
 sanitized address '-fsanitize=address,undefined -fno-sanitize-recover=all'
 

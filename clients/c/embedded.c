@@ -1,11 +1,10 @@
 /* The library: recoverable virtual memory in a program's own process, by the calls of lcrvm.h. The store is a proved
    static library, liblc_c.a, and its files are read and written here.
 
-   What the store calls on one of its areas in memory, a write or a sync, is called on the area's file, by pwrite or
-   fdatasync, before the event is answered; but a sync makes none where all that was written to the file is stable. An
-   event of a store of several nodes makes at most one such call, a node that runs lists them (running.h). Where a call
-   fails the store is given up: this call and each later one answer LCRVM_DEVICE_FAULT, a file `fault` is left in the
-   folder, and a recovery has what was acknowledged.
+   Each event of the store makes at most one call on one of its areas in memory: a write, or a sync. The same call is
+   made on the area's file, by pwrite or fdatasync, before the event is answered; but a sync makes none where all that
+   was written to the file is stable. Where a call fails the store is given up: this call and each later one answer
+   LCRVM_DEVICE_FAULT, a file `fault` is left in the folder, and a recovery has what was acknowledged.
 
    The size of a store stands in a file of its own, which is made before the others. So a store whose creation was
    cut, or that has lost a file, is not opened.
@@ -22,7 +21,6 @@
 #include "logs.h"
 #include "new_files.h"
 #include "renewed_files.h"
-#include "running.h"
 #include "session.h"
 #include "statuses.h"
 #include "store.h"
@@ -205,30 +203,6 @@ static enum lcrvm_status recover(struct lcrvm_store *store)
     return status;
 }
 
-/* The node of a store that has one runs: each thread of it has a part of its own, and the transactions the bytes. */
-static enum lcrvm_status run_node(struct lcrvm_store *store)
-{
-    struct answer answer = {0};
-    enum lcrvm_status status = LCRVM_OK;
-    uint32_t place;
-
-    lcrvm_session_run(&store->session, &answer);
-    if (refused(&answer) != LCRVM_OK)
-        return fault_here.status;
-    if (!make_calls(store, store->areas, &place))
-        return given_up(store, place);
-    note_flushed(store);
-    store->images = malloc(store->geometry.segments * image_len(store));
-    if (store->images == NULL)
-        return failed(LCRVM_NO_MEMORY, "");
-    for (uint32_t segment = 1; segment <= store->geometry.segments; segment++)
-        lcrvm_runner_image(&store->session, segment, image_of(store, segment), image_len(store));
-    for (uint32_t thread = 0; thread < store->geometry.threads && status == LCRVM_OK; thread++)
-        status = of_status(lcrvm_session_split(&store->session, &store->runners[thread]));
-    store->runs = status == LCRVM_OK;
-    return status;
-}
-
 /* Makes the file that states the size stable. */
 static enum lcrvm_status sync_size(struct lcrvm_store *store)
 {
@@ -298,9 +272,7 @@ static enum lcrvm_status open_in(struct lcrvm_store *store, const char *path, co
     status = load_renewed(store);
     if (status == LCRVM_OK && !take_record(store))
         status = sync_folder(store);
-    if (status == LCRVM_OK)
-        status = recover(store);
-    return status == LCRVM_OK && store->geometry.nodes == 1 ? run_node(store) : status;
+    return status == LCRVM_OK ? recover(store) : status;
 }
 
 static struct lcrvm_store *new_store(void)
@@ -319,10 +291,7 @@ static struct lcrvm_store *new_store(void)
 /* Frees what a store has in memory. */
 static void free_memory(struct lcrvm_store *store)
 {
-    for (uint32_t thread = 0; thread < MOST_THREADS; thread++)
-        lcrvm_session_free(store->runners[thread]);
     lcrvm_session_free(store->session);
-    free(store->images);
     free(store->bytes);
     free(store);
 }
@@ -371,26 +340,6 @@ static enum lcrvm_status look_at_store(const struct lcrvm_store *store)
     return store->forks == forks ? LCRVM_OK : failed(LCRVM_FORKED, "");
 }
 
-/* Counts the calls that are on their way, which a close looks at. */
-static void begin_call(struct lcrvm_store *store)
-{
-    atomic_fetch_add(&store->within[this_thread() % MOST_THREADS].of, 1);
-}
-
-static void end_call(struct lcrvm_store *store)
-{
-    atomic_fetch_sub(&store->within[this_thread() % MOST_THREADS].of, 1);
-}
-
-static bool is_within_call(const struct lcrvm_store *store)
-{
-    unsigned calls = 0;
-
-    for (uint32_t place = 0; place < MOST_THREADS; place++)
-        calls += atomic_load(&store->within[place].of);
-    return calls > 0;
-}
-
 /* Whether a call may begin: it has the lock then, and gives it back by `done`. Else it answers `not_entered`. */
 static bool enter(struct lcrvm_store *store)
 {
@@ -400,12 +349,12 @@ static bool enter(struct lcrvm_store *store)
         told(status);
         return false;
     }
-    begin_call(store);
+    atomic_fetch_add(&store->within, 1);
     pthread_mutex_lock(&store->events);
     if (!store->over)
         return true;
     told(is_over(store));
-    end_call(store);
+    atomic_fetch_sub(&store->within, 1);
     pthread_mutex_unlock(&store->events);
     return false;
 }
@@ -420,52 +369,9 @@ static enum lcrvm_status done(struct lcrvm_store *store, enum lcrvm_status statu
 {
     if (store->over)
         serve_waiters(store);
-    end_call(store);
+    atomic_fetch_sub(&store->within, 1);
     pthread_mutex_unlock(&store->events);
     return told(status);
-}
-
-/* ---- the same of a call on a store that runs, which takes no lock */
-
-static bool is_running(const struct lcrvm_store *store)
-{
-    return store != NULL && store->forks == forks && store->runs;
-}
-
-/* Whether a call may begin, on a transaction of this thread of the node: it ends by `went`, or takes the lock and ends
-   by `done`. Else it answers `not_entered`. */
-static bool come(struct lcrvm_store *store, uint32_t node, uint32_t thread)
-{
-    enum lcrvm_status status = LCRVM_OK;
-
-    begin_call(store);
-    if (store->over)
-        status = is_over(store);
-    else if (node >= store->geometry.nodes || thread >= store->geometry.threads)
-        status = failed(LCRVM_UNKNOWN, "");
-    if (status == LCRVM_OK)
-        return true;
-    told(status);
-    end_call(store);
-    return false;
-}
-
-static enum lcrvm_status went(struct lcrvm_store *store, enum lcrvm_status status)
-{
-    if (store->over)
-        status = is_over(store);
-    end_call(store);
-    return told(status);
-}
-
-/* Who waits may have what was given back just now. */
-static void serve_who_waits(struct lcrvm_store *store)
-{
-    if (store->waiting == 0)
-        return;
-    pthread_mutex_lock(&store->events);
-    serve_waiters(store);
-    pthread_mutex_unlock(&store->events);
 }
 
 /* ---- events, by a thread that has the lock. A slice of nothing has an address all the same. */
@@ -596,166 +502,10 @@ static enum lcrvm_status commit_with_room(struct lcrvm_store *store, uint32_t no
     return status;
 }
 
-/* ---- commits on a node that runs */
-
-/* The transaction is over: its locks are given back. */
-static void over_running(struct lcrvm_store *store, uint32_t thread)
-{
-    struct begun *begun = &store->begun[0][thread];
-    uint32_t writes = begun->writing, reads = begun->reading;
-
-    if (begun->owner != NOBODY)
-        store->owned--;
-    begun->open = false;
-    unlock_segments(store, writes, reads, MOST_SEGMENTS + 1);
-    begun->taken = false;
-    serve_who_waits(store);
-}
-
-/* Notes how far the log is committed, and then one commit more. */
-static void note_end(struct lcrvm_store *store, uint64_t end)
-{
-    uint_fast64_t found = store->committed;
-
-    while (found < end && !atomic_compare_exchange_weak(&store->committed, &found, end))
-        continue;
-    store->records[0]++;
-}
-
-/* Notes a commit, and where its record stands, before another transaction sees what it wrote. */
-static struct lcrvm_commit note_commit(struct lcrvm_store *store, uint32_t thread, const struct answer *answer)
-{
-    if (answer->reply == RESERVED)
-        note_end(store, place_of(answer->count, (uint64_t)answer->place + answer->words));
-    over_running(store, thread);
-    return (struct lcrvm_commit){.place = answer->place, .words = answer->words};
-}
-
-/* Commits by a thread that is at the files, and empties the log where it is still full. Nobody comes between. */
-static enum lcrvm_status close_at_files(struct lcrvm_store *store, uint32_t thread, struct answer *answer)
-{
-    enum lcrvm_status status = close_on_node(store, thread, answer), emptied;
-    struct lcrvm_fault full;
-
-    if (status != LCRVM_FULL)
-        return status;
-    full = fault_here;
-    emptied = empty_in_memory(store);
-    if (emptied == LCRVM_OK)
-        status = close_on_node(store, thread, answer);
-    emptied = end_emptying(store, emptied);
-    if (emptied == LCRVM_OK || store->over || emptied == LCRVM_NO_MEMORY)
-        return emptied == LCRVM_OK ? status : emptied;
-    fault_here = full;
-    return LCRVM_FULL;
-}
-
-static enum lcrvm_status close_with_room(struct lcrvm_store *store, uint32_t thread, struct answer *answer)
-{
-    enum lcrvm_status status;
-
-    pthread_mutex_lock(&store->events);
-    status = take_files(store);
-    if (status == LCRVM_OK) {
-        status = close_at_files(store, thread, answer);
-        give_files(store);
-    }
-    pthread_mutex_unlock(&store->events);
-    return status;
-}
-
-static enum lcrvm_status commit_running(struct lcrvm_store *store, uint32_t thread, struct lcrvm_commit *placed)
-{
-    struct answer answer = {0};
-    enum lcrvm_status status =
-        store->begun[0][thread].open ? gather_images(store, thread) : failed(LCRVM_OUT_OF_TURN, "");
-
-    if (status == LCRVM_OK) {
-        wait_for_log(store);
-        status = close_on_node(store, thread, &answer);
-    }
-    if (status == LCRVM_FULL && fault_here.need <= store->geometry.words)
-        status = close_with_room(store, thread, &answer);
-    if (store->over)
-        return is_over(store);
-    if (status == LCRVM_OK)
-        *placed = note_commit(store, thread, &answer);
-    return status;
-}
-
-/* Commits, and has the lock afterwards where it is to flush, or the store does not run; or the call may not begin. */
-static bool commit_call(struct lcrvm_store *store, uint32_t node, uint32_t thread, bool flush,
-                        struct lcrvm_commit *placed, enum lcrvm_status *status)
-{
-    if (is_running(store)) {
-        if (!come(store, node, thread))
-            return false;
-        *status = commit_running(store, thread, placed);
-        if (flush)
-            pthread_mutex_lock(&store->events);
-        return true;
-    }
-    if (!enter(store))
-        return false;
-    *status = commit_with_room(store, node, thread, placed);
-    return true;
-}
-
-/* Ends a call that has committed so. */
-static enum lcrvm_status end_commit(struct lcrvm_store *store, bool flush, enum lcrvm_status status)
-{
-    return store->runs && !flush ? went(store, status) : done(store, status);
-}
-
-/* Drops the changes of a transaction. */
-static enum lcrvm_status abort_running(struct lcrvm_store *store, uint32_t thread)
-{
-    if (!store->begun[0][thread].open)
-        return failed(LCRVM_OUT_OF_TURN, "");
-    restore_images(store, thread);
-    over_running(store, thread);
-    return LCRVM_OK;
-}
-
-/* Begins without the lock. Where it is BUSY, who waits meanwhile is served, and nothing is told of who has time. */
-static enum lcrvm_status begin_beside(struct lcrvm_store *store, const struct wish *wish, uint32_t *thread,
-                                      bool has_time)
-{
-    enum lcrvm_status status;
-
-    begin_call(store);
-    status = begin_free_running(store, wish, thread);
-    if (status != LCRVM_BUSY)
-        return went(store, status);
-    serve_who_waits(store);
-    if (!has_time)
-        return went(store, status);
-    end_call(store);
-    return status;
-}
-
-/* ---- flushes and truncations of either kind */
-
-static enum lcrvm_status flush_node(struct lcrvm_store *store, uint32_t node)
-{
-    if (!store->runs)
-        return flush_shared(store, node);
-    return node < store->geometry.nodes ? flush_committed(store) : failed(LCRVM_UNKNOWN, "");
-}
-
-static enum lcrvm_status truncate_node(struct lcrvm_store *store, uint32_t node)
-{
-    if (!store->runs)
-        return truncate_now(store, node);
-    return node < store->geometry.nodes ? truncate_running(store) : failed(LCRVM_UNKNOWN, "");
-}
-
 /* ---- the end of a store */
 
 static void abort_all(struct lcrvm_store *store)
 {
-    if (store->runs)
-        return;
     for (uint32_t node = 0; node < store->geometry.nodes; node++)
         for (uint32_t thread = 0; thread < store->geometry.threads; thread++)
             if (store->begun[node][thread].open && !store->over)
@@ -766,13 +516,13 @@ static void abort_all(struct lcrvm_store *store)
 static void empty_all(struct lcrvm_store *store)
 {
     for (uint32_t node = 0; node < store->geometry.nodes && !store->over; node++)
-        truncate_node(store, node);
+        truncate_now(store, node);
 }
 
 /* In a child: what another thread of the parent was changing is left as it was, and is not freed. */
 static void forget_store(struct lcrvm_store *store)
 {
-    if (!is_within_call(store))
+    if (atomic_load(&store->within) == 0)
         free_memory(store);
 }
 
@@ -788,7 +538,7 @@ enum lcrvm_status lcrvm_close(struct lcrvm_store *store, struct lcrvm_fault *fau
         return told_to(status, fault);
     }
     pthread_mutex_lock(&store->events);
-    if (is_within_call(store) || (!store->over && has_begun(store, this_thread(), true))) {
+    if (atomic_load(&store->within) > 0 || (!store->over && has_begun(store, this_thread(), true))) {
         pthread_mutex_unlock(&store->events);
         return told_to(failed(LCRVM_BUSY, ""), fault);
     }
@@ -804,36 +554,21 @@ enum lcrvm_status lcrvm_close(struct lcrvm_store *store, struct lcrvm_fault *fau
 
 /* ---- copies */
 
-static void take_area(struct lcrvm_store *store, uint32_t place, uint8_t *bytes)
-{
-    size_t len = len_of(&store->geometry, place);
-
-    if (!store->runs)
-        lcrvm_session_bytes(&store->session, place, 0, bytes, len);
-    else
-        while (lcrvm_runner_bytes(&store->session, place, bytes, len) == LCRVM_BUSY)
-            sched_yield();
-}
-
 /* Takes what all areas hold, one after another, after a flush: each is as a stop at this moment would leave it. */
 static enum lcrvm_status take_bytes(struct lcrvm_store *store, uint8_t **bytes)
 {
     enum lcrvm_status status = LCRVM_OK;
 
     for (uint32_t node = 0; node < store->geometry.nodes && status == LCRVM_OK; node++)
-        status = flush_node(store, node);
+        status = flush_shared(store, node);
     if (status != LCRVM_OK)
         return status;
     *bytes = malloc(bytes_before(&store->geometry, store->areas));
     if (*bytes == NULL)
         return failed(LCRVM_NO_MEMORY, "");
-    status = store->runs ? take_files(store) : LCRVM_OK;
-    if (status != LCRVM_OK)
-        return status;
     for (uint32_t place = 0; place < store->areas; place++)
-        take_area(store, place, *bytes + bytes_before(&store->geometry, place));
-    if (store->runs)
-        give_files(store);
+        lcrvm_session_bytes(&store->session, place, 0, *bytes + bytes_before(&store->geometry, place),
+                            len_of(&store->geometry, place));
     return LCRVM_OK;
 }
 
@@ -882,20 +617,14 @@ enum lcrvm_status lcrvm_begin(struct lcrvm_store *store, uint32_t node, uint32_t
                               size_t count, const uint32_t *reading, size_t reading_count, uint32_t milliseconds)
 {
     struct wish wish;
-    enum lcrvm_status status;
 
     if (thread == NULL || !are_there(segments, count) || !are_there(reading, reading_count))
         return misused();
     *thread = LCRVM_NO_THREAD;
-    wish = wish_of(node, segments, count, reading, reading_count);
-    wish.owner = this_thread();
-    if (is_running(store) && store->waiting == 0) {
-        status = begin_beside(store, &wish, thread, milliseconds > 0);
-        if (status != LCRVM_BUSY || milliseconds == 0)
-            return status;
-    }
     if (!enter(store))
         return not_entered();
+    wish = wish_of(node, segments, count, reading, reading_count);
+    wish.owner = this_thread();
     wish.has_another = has_begun(store, wish.owner, false);
     return done(store, begin_waiting(store, &wish, thread, milliseconds));
 }
@@ -915,11 +644,7 @@ enum lcrvm_status lcrvm_begin_transaction(struct lcrvm_store *store, uint32_t no
 enum lcrvm_status lcrvm_set_range(struct lcrvm_store *store, uint32_t node, uint32_t thread, uint32_t segment,
                                   uint32_t offset, uint32_t length)
 {
-    if (!is_running(store))
-        return enter(store) ? done(store, set_range_now(store, node, thread, segment, offset, length)) : not_entered();
-    if (!come(store, node, thread))
-        return not_entered();
-    return went(store, set_range_running(store, thread, segment, offset, length));
+    return enter(store) ? done(store, set_range_now(store, node, thread, segment, offset, length)) : not_entered();
 }
 
 enum lcrvm_status lcrvm_write(struct lcrvm_store *store, uint32_t node, uint32_t thread, uint32_t segment,
@@ -927,12 +652,7 @@ enum lcrvm_status lcrvm_write(struct lcrvm_store *store, uint32_t node, uint32_t
 {
     if (!are_there(bytes, length))
         return misused();
-    if (!is_running(store))
-        return enter(store) ? done(store, write_now(store, node, thread, segment, offset, bytes, length))
-                            : not_entered();
-    if (!come(store, node, thread))
-        return not_entered();
-    return went(store, write_running(store, thread, segment, offset, bytes, length));
+    return enter(store) ? done(store, write_now(store, node, thread, segment, offset, bytes, length)) : not_entered();
 }
 
 enum lcrvm_status lcrvm_put(struct lcrvm_store *store, uint32_t node, uint32_t thread, uint32_t segment,
@@ -940,11 +660,7 @@ enum lcrvm_status lcrvm_put(struct lcrvm_store *store, uint32_t node, uint32_t t
 {
     if (!are_there(bytes, length))
         return misused();
-    if (!is_running(store))
-        return enter(store) ? done(store, put_now(store, node, thread, segment, offset, bytes, length)) : not_entered();
-    if (!come(store, node, thread))
-        return not_entered();
-    return went(store, put_running(store, thread, segment, offset, bytes, length));
+    return enter(store) ? done(store, put_now(store, node, thread, segment, offset, bytes, length)) : not_entered();
 }
 
 enum lcrvm_status lcrvm_read(struct lcrvm_store *store, uint32_t node, uint32_t thread, uint32_t segment,
@@ -952,19 +668,12 @@ enum lcrvm_status lcrvm_read(struct lcrvm_store *store, uint32_t node, uint32_t 
 {
     if (!are_there(bytes, length))
         return misused();
-    if (!is_running(store))
-        return enter(store) ? done(store, read_now(store, node, thread, segment, offset, bytes, length))
-                            : not_entered();
-    if (!come(store, node, thread))
-        return not_entered();
-    return went(store, read_running(store, thread, segment, offset, bytes, length));
+    return enter(store) ? done(store, read_now(store, node, thread, segment, offset, bytes, length)) : not_entered();
 }
 
 enum lcrvm_status lcrvm_abort_transaction(struct lcrvm_store *store, uint32_t node, uint32_t thread)
 {
-    if (!is_running(store))
-        return enter(store) ? done(store, abort_now(store, node, thread)) : not_entered();
-    return come(store, node, thread) ? went(store, abort_running(store, thread)) : not_entered();
+    return enter(store) ? done(store, abort_now(store, node, thread)) : not_entered();
 }
 
 enum lcrvm_status lcrvm_abort(struct lcrvm_store *store, uint32_t node, uint32_t *thread)
@@ -983,48 +692,50 @@ enum lcrvm_status lcrvm_abort(struct lcrvm_store *store, uint32_t node, uint32_t
    now. What others commit comes after it in the log, and a commit of another node is read only once it is stable. */
 static enum lcrvm_status flush_after(struct lcrvm_store *store, uint32_t node, bool flush)
 {
-    if (!flush)
-        return LCRVM_OK;
-    return store->over ? is_over(store) : flush_node(store, node);
+    return flush && !store->over ? flush_shared(store, node) : LCRVM_OK;
 }
 
-/* What a commit answers whose transaction answered this. */
-static enum lcrvm_status flush_commit(struct lcrvm_store *store, uint32_t node, uint32_t *thread, bool flush,
-                                      enum lcrvm_status ended)
+static enum lcrvm_status commit_and_flush(struct lcrvm_store *store, uint32_t node, uint32_t *thread, bool flush,
+                                          struct lcrvm_commit *commit)
 {
-    if (ended != LCRVM_OK)
-        return ended;
-    *thread = LCRVM_NO_THREAD;
-    return flush_after(store, node, flush);
+    struct lcrvm_commit placed;
+    enum lcrvm_status status = commit_with_room(store, node, *thread, &placed);
+
+    if (status == LCRVM_OK) {
+        *thread = LCRVM_NO_THREAD;
+        status = flush_after(store, node, flush);
+    }
+    if (status == LCRVM_OK && commit != NULL)
+        *commit = placed;
+    return status;
 }
 
 enum lcrvm_status lcrvm_commit(struct lcrvm_store *store, uint32_t node, uint32_t *thread, bool flush,
                                struct lcrvm_commit *commit)
 {
-    struct lcrvm_commit placed = {0, 0};
     enum lcrvm_status status;
 
     if (thread == NULL)
         return misused();
-    if (commit_call(store, node, *thread, flush, &placed, &status))
-        status = end_commit(store, flush, flush_commit(store, node, thread, flush, status));
-    else
-        status = not_entered();
-    if (status == LCRVM_OK && commit != NULL)
-        *commit = placed;
+    status = enter(store) ? done(store, commit_and_flush(store, node, thread, flush, commit)) : not_entered();
     if (status == LCRVM_DEVICE_FAULT)
         *thread = LCRVM_NO_THREAD;
     return status;
 }
 
-/* Flushes whatever became of the commit, which is answered first. */
-static enum lcrvm_status flush_ended(struct lcrvm_store *store, uint32_t node, bool flush, enum lcrvm_status ended)
+/* Commits, and flushes whatever became of the commit, which is answered first. */
+static enum lcrvm_status end_and_flush(struct lcrvm_store *store, uint32_t node, uint32_t thread, bool flush,
+                                       struct lcrvm_commit *commit)
 {
+    struct lcrvm_commit placed;
+    enum lcrvm_status ended = commit_with_room(store, node, thread, &placed), flushed;
     const struct lcrvm_fault why = fault_here;
-    enum lcrvm_status flushed = flush_after(store, node, flush);
 
+    flushed = flush_after(store, node, flush);
     if (store->over)
         return is_over(store);
+    if (ended == LCRVM_OK && flushed == LCRVM_OK && commit != NULL)
+        *commit = placed;
     if (ended == LCRVM_OK)
         return flushed;
     fault_here = why;
@@ -1034,15 +745,7 @@ static enum lcrvm_status flush_ended(struct lcrvm_store *store, uint32_t node, b
 enum lcrvm_status lcrvm_end_transaction(struct lcrvm_store *store, uint32_t node, uint32_t thread, bool flush,
                                         struct lcrvm_commit *commit)
 {
-    struct lcrvm_commit placed = {0, 0};
-    enum lcrvm_status status;
-
-    if (!commit_call(store, node, thread, flush, &placed, &status))
-        return not_entered();
-    status = end_commit(store, flush, flush_ended(store, node, flush, status));
-    if (status == LCRVM_OK && commit != NULL)
-        *commit = placed;
-    return status;
+    return enter(store) ? done(store, end_and_flush(store, node, thread, flush, commit)) : not_entered();
 }
 
 enum lcrvm_status lcrvm_flush(struct lcrvm_store *store, uint32_t node, uint64_t *records)
@@ -1053,7 +756,7 @@ enum lcrvm_status lcrvm_flush(struct lcrvm_store *store, uint32_t node, uint64_t
     if (!enter(store))
         return not_entered();
     known = node < MOST_NODES ? store->records[node] : 0;
-    status = done(store, flush_node(store, node));
+    status = done(store, flush_shared(store, node));
     if (status == LCRVM_OK && records != NULL)
         *records = known;
     return status;
@@ -1065,7 +768,7 @@ static enum lcrvm_status truncate_alone(struct lcrvm_store *store, uint32_t node
 
     if (status != LCRVM_OK)
         return status;
-    status = truncate_node(store, node);
+    status = truncate_now(store, node);
     if (status == LCRVM_OK && rounds != NULL)
         *rounds = store->rounds[node];
     give_files(store);
@@ -1079,9 +782,7 @@ enum lcrvm_status lcrvm_truncate(struct lcrvm_store *store, uint32_t node, uint6
 
 enum lcrvm_status lcrvm_trim(struct lcrvm_store *store, uint32_t node, uint64_t *count)
 {
-    if (!enter(store))
-        return not_entered();
-    return done(store, store->runs ? trim_running(store, node, count) : trim_now(store, node, count));
+    return enter(store) ? done(store, trim_now(store, node, count)) : not_entered();
 }
 
 enum lcrvm_status lcrvm_leave(struct lcrvm_store *store, uint32_t node, uint32_t segment)
@@ -1090,8 +791,6 @@ enum lcrvm_status lcrvm_leave(struct lcrvm_store *store, uint32_t node, uint32_t
 
     if (!enter(store))
         return not_entered();
-    if (store->runs)
-        return done(store, leave_running(store, node, segment));
     lcrvm_session_leave(&store->session, bounded(node), segment, &answer);
     return done(store, answered(store, &answer));
 }
@@ -1102,8 +801,6 @@ enum lcrvm_status lcrvm_arrive(struct lcrvm_store *store, uint32_t node, uint32_
 
     if (!enter(store))
         return not_entered();
-    if (store->runs)
-        return done(store, arrive_running(store, node, segment));
     lcrvm_session_arrive(&store->session, bounded(node), segment, &answer);
     return done(store, answered(store, &answer));
 }
@@ -1121,13 +818,8 @@ enum lcrvm_status lcrvm_deliver(struct lcrvm_store *store, uint32_t node, uint64
 
     if (!enter(store))
         return not_entered();
-    if (store->runs) {
-        answer.reply = IGNORED;
-        status = done(store, deliver_running(store, node, record, segment, to));
-    } else {
-        lcrvm_session_deliver(&store->session, bounded(node), record, segment, bounded(to), &answer);
-        status = done(store, answered(store, &answer));
-    }
+    lcrvm_session_deliver(&store->session, bounded(node), record, segment, bounded(to), &answer);
+    status = done(store, answered(store, &answer));
     if (status == LCRVM_OK && delivered != NULL)
         *delivered = (struct lcrvm_delivered){.delivery = delivery_of(answer.reply), .applied = answer.count};
     return status;

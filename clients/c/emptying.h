@@ -1,6 +1,6 @@
-/* How a log of a store of several nodes that is full is emptied beside open transactions: the session aborts those that
-   have set a range, and begins them again after the truncation with the same locks, which takes no memory. The lock is
-   held all the while, so to their threads it is as if nothing had been.
+/* How a log that is full is emptied beside open transactions: the session aborts those that have set a range, and begins
+   them again after the truncation with the same locks, which takes no memory. The lock is held all the while, so to
+   their threads it is as if nothing had been.
 
    What their ranges hold is kept by the session before the first one is aborted, and given back by the next call of
    the transaction. Where there is no memory to set a range again, that call answers so, and the rest stays kept. So

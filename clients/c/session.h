@@ -73,30 +73,9 @@ uint32_t lcrvm_session_arrive(struct handle *handle, uint16_t node, uint32_t seg
 uint32_t lcrvm_session_deliver(struct handle *handle, uint16_t sender, uint64_t number, uint32_t segment, uint16_t to,
                                struct answer *answer);
 uint32_t lcrvm_session_trim(struct handle *handle, uint16_t node, struct answer *answer);
-uint32_t lcrvm_session_run(struct handle *handle, struct answer *answer);
-uint32_t lcrvm_session_split(struct handle *handle, struct handle *other);
 bool lcrvm_session_last_call(struct handle *handle, uint32_t place, struct last_call *call);
 bool lcrvm_session_bytes(struct handle *handle, uint32_t place, size_t at, uint8_t *buffer, size_t len);
 void lcrvm_session_give_up(struct handle *handle);
 void lcrvm_session_free(struct handle handle);
-
-/* Of a session on a node that runs. */
-uint32_t lcrvm_runner_image(struct handle *handle, uint32_t segment, uint8_t *image, size_t len);
-uint32_t lcrvm_runner_set_range(struct handle *handle, uint32_t segment, const uint8_t *image, size_t image_len,
-                                uint32_t offset, uint32_t len);
-uint32_t lcrvm_runner_write(struct handle *handle, uint32_t segment, uint8_t *image, size_t image_len, uint32_t offset,
-                            const uint8_t *bytes, size_t len);
-uint32_t lcrvm_runner_restore(struct handle *handle, uint32_t segment, uint8_t *image, size_t image_len);
-void lcrvm_runner_clear(struct handle *handle);
-void lcrvm_runner_gather_none(struct handle *handle);
-uint32_t lcrvm_runner_gather(struct handle *handle, uint32_t segment, const uint8_t *image, size_t image_len);
-uint32_t lcrvm_runner_commit(struct handle *handle, struct answer *answer);
-uint32_t lcrvm_runner_flush(struct handle *handle, struct answer *answer);
-uint32_t lcrvm_runner_truncate(struct handle *handle, struct answer *answer);
-uint32_t lcrvm_runner_stable_end(struct handle *handle, struct answer *answer);
-uint32_t lcrvm_runner_call(struct handle *handle, uint32_t place, size_t index, struct last_call *call);
-uint32_t lcrvm_runner_call_bytes(struct handle *handle, uint32_t place, size_t index, uint8_t *bytes, size_t len);
-uint32_t lcrvm_runner_bytes(struct handle *handle, uint32_t place, uint8_t *bytes, size_t len);
-void lcrvm_runner_made(struct handle *handle);
 
 #endif

@@ -22,40 +22,26 @@ struct lcrvm_store {
     struct lcrvm_geometry geometry, stated; /* by the folder; of no nodes where it states none */
     struct timespec names;                  /* when those in the folder changed last, as the opening found it */
     unsigned forks;                         /* as many as had led to this process when it opened the store */
-    atomic_bool over;                       /* a file has failed: each call answers why */
+    bool over;                              /* a file has failed: each call answers why */
     struct lcrvm_fault why;
 
-    struct count within[MOST_THREADS]; /* so many calls are on their way: each thread counts at a place */
+    atomic_uint within;     /* so many calls are on their way, of whatever thread */
     pthread_mutex_t events; /* held around each event, and while what is below is read or changed */
     pthread_cond_t idle;    /* said where `busy` ends */
     bool busy;              /* a thread is at the files: who is to call one waits */
     bool shared;            /* that thread gives `events` back while it syncs */
     struct waiter *waiters; /* who waits to begin, in turn */
-    atomic_uint waiting;    /* how many these are */
 
-    atomic_uint_fast64_t records[MOST_NODES]; /* the commits of each node that have one */
+    uint64_t records[MOST_NODES]; /* the commits of each node that have one */
     uint64_t acked[MOST_NODES];   /* so many of them are stable */
     uint64_t rounds[MOST_NODES];
     struct begun begun[MOST_NODES][MOST_THREADS];
-    atomic_uint owned; /* so many of them are open that lcrvm_begin began */
+    unsigned owned; /* so many of them are open that lcrvm_begin began */
 
     uint32_t areas;
     uint64_t calls[MOST_AREAS]; /* of each area, those that its file has had */
     bool stable[MOST_AREAS];    /* of each file, whether all that was written to it is */
     uint8_t *bytes;             /* room for what one call writes */
-
-    /* Of a store of one node, which runs: see running.h. A place in its log is 65,536 times the round, and the words
-       from the log's front on. */
-    bool runs;
-    struct handle runners[MOST_THREADS];    /* each thread's part in the node; that of `session` is at the files */
-    uint8_t *images;                        /* the bytes of the segments, with what open transactions wrote */
-    struct count held[MOST_SEGMENTS + 1];   /* of each segment: so many transactions read it, or HELD_TO_WRITE */
-    atomic_uint away;                       /* the segments whose tokens were taken, a bit each */
-    atomic_uint_fast64_t committed;         /* the end of the last commit in the log */
-    uint64_t flushed;                       /* the end of what is stable there */
-    uint64_t made;                          /* the calls of the areas are made on the files up to this one */
-    uint64_t trimmed;                       /* so many records were dropped */
-    atomic_bool emptying;                   /* the log is being emptied: who is to commit waits */
 };
 
 /* Each call of a store that is over answers why it is. */

@@ -4,8 +4,6 @@
 
 #include "../../include/lcrvm.h"
 
-#include <stdatomic.h>
-
 enum {
     MOST_NODES = 8,
     MOST_THREADS = 16,
@@ -15,38 +13,17 @@ enum {
     MOST_WORDS = 4096,
     MOST_AREAS = MOST_NODES + MOST_SEGMENTS,
     WORD_BYTES = 8,
-    PAGE_BYTES = 256,
     PAGE_AREA_BYTES = 544, /* a page in its file, which has two slots for it */
-    NOBODY = 0, /* whose transactions those of lcrvm_begin_transaction are */
-    LINE_BYTES = 64
+    NOBODY = 0 /* whose transactions those of lcrvm_begin_transaction are */
 };
 
 /* A transaction that is open: what it locked, a bit a segment. Who waits for it is told by these. */
 struct begun {
-    atomic_bool taken; /* of a node that runs: somebody has the thread, or is about to */
-    atomic_bool open;
+    bool open;
     bool aside; /* its log was emptied since: the session may keep what its ranges held */
-    atomic_uint writing, reading;
-    atomic_uint_fast64_t owner; /* the number of the thread that began it */
-    char apart[LINE_BYTES];     /* so that threads do not share a line of the processor's cache */
+    uint32_t writing, reading;
+    uint64_t owner; /* the number of the thread that began it */
 };
-
-/* A count on a line of its own. */
-struct count {
-    atomic_uint of;
-    char apart[LINE_BYTES];
-};
-
-/* The number of the calling thread, which no other thread has or has had. */
-static uint64_t this_thread(void)
-{
-    static atomic_uint_fast64_t last;
-    static _Thread_local uint64_t number;
-
-    if (number == NOBODY)
-        number = atomic_fetch_add(&last, 1) + 1;
-    return number;
-}
 
 /* ---- sizes */
 

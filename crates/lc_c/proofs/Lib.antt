@@ -9,7 +9,3 @@ mod Removing
 mod GivenBack
 mod Rows
 mod Holding
-mod AsksRunning
-mod SeenAreas
-mod TracedOnes
-mod FromStore

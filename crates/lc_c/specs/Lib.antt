@@ -14,11 +14,3 @@ pub mod Aborts
 pub mod Truncating
 pub mod Calls
 pub mod EmptyingCalls
-pub mod CallFaults
-pub mod RunningPart
-pub mod Running
-pub mod ChangesCalls
-pub mod NodeCalls
-pub mod Runs
-pub mod Looks
-pub mod RunningCalls

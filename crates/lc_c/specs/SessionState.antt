@@ -83,4 +83,4 @@ StepsStage old event said new = (said ≡ Ok (Refused (refusal_of old))) × (new
 abbrev pub AreaAt : SessionState → ℕ → Option MirrorArea → Type 0
 AreaAt (Gathering geometry areas) place area = area ≡ slice_get areas.items place
 AreaAt (Open store) place area = (g : Geometry) (areas : List MirrorArea) → HasAreas ghosts store.phase g areas → area ≡ slice_get areas place
-AreaAt stage place area = area ≡ None
+AreaAt Over place area = area ≡ None

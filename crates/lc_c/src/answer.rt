@@ -94,8 +94,7 @@ impl Answer {
         }
     }
 
-    /// A reply.
-    pub(crate) fn of_reply(reply: &Reply) -> Answer
+    fn of_reply(reply: &Reply) -> Answer
         ensures { result ≡ of_reply reply.now }
     {
         match reply {

@@ -113,7 +113,7 @@ fn restored(alloc: Global, handle: &mut Handle, node: u16, thread: u16) -> Resul
 }
 
 // It is done, refused, or there is no memory.
-pub(crate) fn answer_to(said: Result<(), CallFault>) -> Answer
+fn answer_to(said: Result<(), CallFault>) -> Answer
     ensures { result ≡ answer_to said }
 {
     match said {

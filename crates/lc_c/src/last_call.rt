@@ -1,15 +1,12 @@
 //! The last call of an area as C reads it.
 ghost use Rattle.std.specs.Prelude.{◌≡◌};
 ghost use Rattle.lc_c.specs.LastCall.{call_of};
-ghost use Rattle.lc_c.specs.Looks.{told_call};
 
 use crate::area_call::AreaCall;
 use crate::mirror_area::MirrorArea;
-use lc_traced::{CallKind, TracedCall};
 
-/// The last call of an area, or one that an area keeps: none 0, a write 1, of `len` bytes from `at` on, or a sync 2.
-/// `calls` is how many there were, from 0 again after 2^64 - 1, or the ticket of the one that is kept. What does not
-/// belong to it is 0.
+/// The last call of an area: none 0, a write 1, of `len` bytes from `at` on, or a sync 2; and how many calls there
+/// were, from 0 again after 2^64 - 1. What does not belong to it is 0.
 #[repr(C)]
 #[derive(Clone, Copy, Drop)]
 pub struct LastCall {
@@ -44,31 +41,6 @@ impl LastCall {
                 at: 0,
                 len: 0,
             },
-        }
-    }
-
-    /// A call that an area keeps, which counts its ticket; all is 0 where there is none.
-    pub(crate) fn of_traced(call: Option<TracedCall>) -> LastCall
-        ensures { result ≡ told_call call }
-    {
-        let Some(call) = call else {
-            return LastCall::with(0, 0, 0, 0);
-        };
-        match call.kind {
-            CallKind::Write { at, len, .. } => LastCall::with(1, call.ticket, at, len),
-            CallKind::Sync => LastCall::with(2, call.ticket, 0, 0),
-        }
-    }
-
-    // One of these numbers.
-    fn with(kind: u32, calls: u64, at: usize, len: usize) -> LastCall
-        ensures { result ≡ record { kind = kind; calls = calls; at = at; len = len } }
-    {
-        LastCall {
-            kind,
-            calls,
-            at: at as u64,
-            len: len as u64,
         }
     }
 }

@@ -190,7 +190,7 @@ impl Session {
         match &self.stage {
             SessionState::Gathering { areas, .. } => areas.get(place),
             SessionState::Open(world) => world.area(place),
-            SessionState::Running(_) | SessionState::Over => None,
+            SessionState::Over => None,
         }
     }
 

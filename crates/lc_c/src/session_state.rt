@@ -1,6 +1,5 @@
 //! How far a session is.
 use crate::mirror_area::MirrorArea;
-use crate::running_part::RunningPart;
 use lc_core::{Refusal, World};
 use lc_record::Geometry;
 
@@ -14,8 +13,6 @@ pub(crate) enum SessionState {
     },
     /// The store, down or up.
     Open(World<MirrorArea>),
-    /// A thread's part in a node that runs.
-    Running(RunningPart),
     /// It is given up: a file has failed, or the areas did not fit.
     Over,
 }

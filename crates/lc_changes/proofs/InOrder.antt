@@ -6,7 +6,6 @@ use Rattle.lc_record.specs.Record.{Chain}
 use Rattle.lc_record.specs.Transaction.{is_member}
 use Rattle.lc_range.specs.RangeSet.{Has, IsCanonical, LiesBefore}
 use Rattle.lc_range.specs.declared.range.Range.{Range}
-use Rattle.lc_segments.specs.Ran.{Bytes}
 use Rattle.lc_changes.specs.Gathering.{bytes_at, gathered, part_at, values_of}
 
 -- all of these ranges lie in a segment or above
@@ -31,7 +30,7 @@ none_below s low image (r ∷ rs) less from =
     ap (λ (l : List ℕ). l ++ bytes_at s image rs) (part_other s image r (λ is. omega (arith, is, less, from.0))) ∙ none_below s low image rs less from.1
 
 -- nor do segments above a range's
-without : (images : Bytes) (s : ℕ) (segments : List ℕ) (r : Range) (rs : List Range) → Chain (λ a b. a < b) (s ∷ segments) → r.segment ≤ s
+without : (images : ℕ → List ℕ) (s : ℕ) (segments : List ℕ) (r : Range) (rs : List Range) → Chain (λ a b. a < b) (s ∷ segments) → r.segment ≤ s
     → gathered images segments (r ∷ rs) ≡ gathered images segments rs
 without images s [] r rs up low = refl
 without images s (next ∷ segments) r rs up low =
@@ -59,11 +58,11 @@ has_from : (low : ℕ) (rs : List Range) (s k : ℕ) → FromOn low rs → Has r
 has_from low [] s k from has = absurd has
 has_from low (r ∷ rs) s k from has = elim has [ inl here ↦ omega (arith, here.0, from.0) | inr later ↦ has_from low rs s k from.1 later ]
 
-none_gathered : (images : Bytes) (segments : List ℕ) → gathered images segments [] ≡ []
+none_gathered : (images : ℕ → List ℕ) (segments : List ℕ) → gathered images segments [] ≡ []
 none_gathered images [] = refl
 none_gathered images (s ∷ segments) = none_gathered images segments
 
-pub in_order : (images : Bytes) (segments : List ℕ) (set : List Range) → IsCanonical set → Chain (λ a b. a < b) segments → ((s k : ℕ) → Has set s k → IsTrue (is_member s segments))
+pub in_order : (images : ℕ → List ℕ) (segments : List ℕ) (set : List Range) → IsCanonical set → Chain (λ a b. a < b) segments → ((s k : ℕ) → Has set s k → IsTrue (is_member s segments))
     → gathered images segments set ≡ values_of images set
 in_order images segments [] canonical up among = none_gathered images segments
 in_order images [] (r ∷ rs) canonical up among = absurd (false≢true (among r.segment r.offset (inl (refl, omega arith, omega (arith, canonical.0)))))

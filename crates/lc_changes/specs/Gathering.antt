@@ -1,5 +1,6 @@
 -- What is gathered of an image.
 use Rattle.std.specs.Prelude.{ℕ, ◌+◌, ◌≤◌, ◌==◌, if◌then◌else◌, List, [], ◌∷◌, ◌++◌, length, take, drop}
+use Rattle.lc_record.specs.Content.{put}
 use Rattle.lc_range.specs.declared.range.Range.{Range}
 
 -- the bytes that a segment's image has at a range, if that is of the segment
@@ -25,3 +26,9 @@ values_of images (range ∷ ranges) = take range.len (drop range.offset (images 
 abbrev pub LieInImages : (ℕ → List ℕ) → List Range → Type 0
 LieInImages images [] = Unit {0}
 LieInImages images (range ∷ ranges) = (range.offset + range.len ≤ length (images range.segment)) × LieInImages images ranges
+
+-- a segment's bytes with gathered ones put at their ranges, those of the segment alone, in turn
+abbrev pub puts_at : ℕ → List Range → List ℕ → List ℕ → List ℕ
+puts_at segment [] values bytes = bytes
+puts_at segment (range ∷ ranges) values bytes =
+    puts_at segment ranges (drop range.len values) (if range.segment == segment then put range.offset (take range.len values) bytes else bytes)

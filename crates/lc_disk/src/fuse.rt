@@ -11,7 +11,7 @@ use crate::count::Count;
 use crate::{Area, Choice, DeviceFault, MemArea, Stoppable, When};
 
 /// An area in memory, always honest, that counts the calls `read`, `write_at` and `sync` from 1 and fails those that
-/// it was told to. The counting stops at 2^64 - 1. A failed write changes no byte and makes its range dirty.
+/// it was told to. A failed write changes no byte and makes its range dirty.
 #[derive(Drop)]
 pub struct Fuse {
     area: MemArea,

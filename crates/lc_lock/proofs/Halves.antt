@@ -36,7 +36,3 @@ has_room d s behind few open_ = lt_of_not-le (λ full. let e : d + 1 ≡ s + 429
 -- of the tickets that are out, the low halves tell which one is served
 pub same_ticket : (d s t : ℕ) → s ≤ t → t < d → d < s + 4294967296 → s % 4294967296 ≡ t % 4294967296 → s ≡ t
 same_ticket d s t low high few e = one_turn s t 4294967296 low (omega arith) e
-
--- where the halves tell that no ticket is out, none is
-pub none_out : (d s : ℕ) → s ≤ d → d < s + 4294967296 → word_of d s / 4294967296 ≡ word_of d s % 4294967296 → d ≡ s
-none_out d s behind few e = sym (one_turn s d 4294967296 behind few (sym (served_half d s) ∙ (sym e ∙ next_half d s)))

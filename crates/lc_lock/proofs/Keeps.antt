@@ -12,10 +12,10 @@ use Rattle.atomic_table.proofs.Lists.{at_set, at_snoc, at_longer, set_here, set_
 use Rattle.lc_lock.specs.declared.turn.TicketState.{TicketState}
 use Rattle.lc_lock.specs.declared.turn.TicketState.TheVariants.{Idle, Waits, Holds}
 use Rattle.lc_lock.specs.declared.turn.LockView.{LockView}
-use Rattle.lc_lock.specs.TicketQueue.{word_of, ticket_of, HasTicket, Stands, place, first_place, HasComeTo, IsHome, IsOut, IsQueue, came, drew, drew_and_took, began, took, gave}
+use Rattle.lc_lock.specs.TicketQueue.{word_of, ticket_of, HasTicket, Stands, place, first_place, HasComeTo, IsHome, IsOut, IsQueue, came, drew, began, took, gave}
 use Rattle.lc_lock.specs.Bells.{listened, rang}
 use Rattle.lc_lock.proofs.LowBit.{sets_bit, clears_bit}
-use Rattle.lc_lock.proofs.Halves.{served_half, next_half, one_drawn, ServesNext, one_served, has_room, none_out, same_ticket}
+use Rattle.lc_lock.proofs.Halves.{served_half, next_half, one_drawn, ServesNext, one_served, has_room, same_ticket}
 
 more_drawn : (d s : ℕ) (t : TicketState) → Stands d s t → Stands (d + 1) s t
 more_drawn d s Idle h = tt
@@ -201,28 +201,6 @@ module _ {T K : Type 0} (fits : K → T → Type 0) (key : K) where
       (λ (o : IsOut f s.homes s.views). let who = o.1 in let same : id ≡ who.0 = r.apart id who.0 t me.0 who.1 at who.2 mine (holds_with who.1.turn t (who.3 ∙ ap (λ (z : ℕ). Holds z) (sym is))) in
       let one : me.0 ≡ who.1 = some-injective me.0 who.1 (sym at ∙ (ap (get_elem? s.views) same ∙ who.2)) in let clash : Waits t ≡ Holds f = sym waits ∙ (ap (λ (z : LockView K). z.turn) one ∙ who.3) in absurd (cc))
       r.value
-
-  -- a seat draws the next ticket where none is out, and takes the slot in the same step
-  pub takes_free : (slots id : ℕ) (me : M) (old new : ℕ) → me.0.turn ≡ Idle → old / 4294967296 ≡ old % 4294967296 → new ≡ (old + 4294967296) % 18446744073709551616
-      → Allows (IsQueue fits key) slots id me 0 (λ n. either (eqb n old) new n) (drew_and_took fits (step slots 0 old new none) me)
-  takes_free slots id me old new idle free more s r wide at small = let n : ℕ = get_or s.words 0 0 in let d : ℕ = r.drawn in let f : ℕ = r.served in let told = drew_and_took fits (step slots 0 old new none) me n in exchanged n old new (Goes s id me told)
-      (λ hit. let is : old ≡ word_of d f = sym hit ∙ found s r in let known = r.knows id me.0 at in
-      let same : d ≡ f = none_out d f r.behind r.few (subst (λ (z : ℕ). z / 4294967296 ≡ z % 4294967296) is free) in
-      let w : LockView K = place me.0.key (Holds d) in
-      let becomes : new ≡ word_of (d + 1) f = more ∙ (ap (λ (z : ℕ). (z + 4294967296) % 18446744073709551616) is ∙ one_drawn d f) in
-      let begun : 0 < f = subst (λ (z : ℕ). 0 < z) same r.begun in ⊎_elim
-      (λ (h : IsHome fits key f s.homes s.views). let come = h.2.1 begun in let x : T = come.0 in (
-        w,
-        takes 0 (Some x),
-        ap (λ (l : List (maybe.Option (Option T))). get_elem? l 0) h.1 ∙ ap (λ (z : Option T). some (some z)) come.1,
-        moved s r id w (d + 1) f r.bells (set s.words 0 new) (set s.homes 0 none) (stored s r new ∙ ap (λ (z : ℕ). z ∷ r.bells) becomes) (omega arith) (omega arith) (omega arith) (known.0, (same, omega arith))
-            (λ j u other e. more_drawn d f u.turn (r.knows j u e).1) (λ j k u other e mine has. let low = is_drawn d f k u.turn (r.knows j u e).1 has in let one : d ≡ k = mine in omega arith)
-            (inr (ap (λ (l : List (maybe.Option (Option T))). set l 0 none) h.1, (id, w, set_here s.views id w (within s.views id me.0 at), ap (λ (z : ℕ). Holds z) same))),
-        ((λ _. (d, x, ap (λ (z : ℕ). z / 4294967296) (found s r) ∙ next_half d f, subst (λ (z : K). fits z x) (sym known.0) come.2, refl)), λ miss. absurd (miss hit)),
-      ))
-      (λ (o : IsOut f s.homes s.views). let who = o.1 in let held : (f ≡ f) × (f < d) = subst (Stands d f) who.3 (r.knows who.0 who.1 who.2).1 in let below = held.1 in absurd (omega arith))
-      r.value)
-      (λ miss. stays s r id me told at ((λ hit. absurd (miss hit)), λ _. refl))
 
   pub begins : (slots id : ℕ) (me : M) → me.0.turn ≡ Waits 0 → Allows (IsQueue fits key) slots id me 0 (λ n. n) (began (step slots 0 0 0 none) me)
   begins slots id me waits s r wide at small =

@@ -82,14 +82,6 @@ module _ {T K : Type 0} where
   abbrev pub drew : Step (Option T) → Seated T K → ℕ → Seated T K → Type 0
   drew st m n m' = (n ≡ st.first → Draws m n m') × (n ≢ st.first → m' ≡ m)
 
-  -- it has drawn the next ticket, which is served at once, and has taken the slot with a value that fits
-  abbrev pub DrawsAndTakes : (K → T → Type 0) → Seated T K → ℕ → Seated T K → Type 0
-  DrawsAndTakes fits m n m' = (t : ℕ) × (x : T) × (n / 2 ^ 32 ≡ t % 2 ^ 32) × fits m.0.key x × (m' ≡ (place m.0.key (Holds t), (0, Some x) ∷ m.1))
-
-  -- it has where the word was the expected one
-  abbrev pub drew_and_took : (K → T → Type 0) → Step (Option T) → Seated T K → ℕ → Seated T K → Type 0
-  drew_and_took fits st m n m' = (n ≡ st.first → DrawsAndTakes fits m n m') × (n ≢ st.first → m' ≡ m)
-
   -- the maker has taken the slot, in which nothing is
   abbrev pub began : Step (Option T) → Seated T K → ℕ → Seated T K → Type 0
   began st m n m' = m' ≡ (place m.0.key (Holds 0), (0, None) ∷ m.1)

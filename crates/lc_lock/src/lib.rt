@@ -12,7 +12,6 @@ mod sleeping;
 mod taking;
 mod ticket_lock;
 mod tickets;
-mod trying;
 mod turn;
 
 pub use keyed::Keyed;

@@ -36,7 +36,7 @@ impl<T: Keyed<K>, K> TicketLock<T, K> {
         let Ok((lock, loan)) = TicketLock::vacant(alloc, key) else {
             return Err(value);
         };
-        lock.unlock_silently(value, loan);
+        lock.unlock(value, loan);
         Ok(lock)
     }
 }

@@ -1,5 +1,5 @@
 //! What each step on the table tells.
-ghost use Rattle.lc_lock.specs.TicketQueue.{came, drew, drew_and_took, began, took, gave};
+ghost use Rattle.lc_lock.specs.TicketQueue.{came, drew, began, took, gave};
 ghost use Rattle.lc_lock.specs.Bells.{listened, rang};
 
 use crate::Keyed;
@@ -16,12 +16,6 @@ pub(crate) struct Draw;
 
 impl<T, K> Play<Option<T>, LockView<K>> for Draw {
     ghost then = { drew };
-}
-
-pub(crate) struct TakeFree;
-
-impl<T: Keyed<K>, K> Play<Option<T>, LockView<K>> for TakeFree {
-    ghost then = { drew_and_took T.fits };
 }
 
 pub(crate) struct Begin;

@@ -121,7 +121,7 @@ impl<T: Keyed<K>, K> TicketLock<T, K> {
 
     // Puts the value into the slot, which is empty, and serves the next ticket. It answers the word as it was before,
     // in which this ticket is the one that is served.
-    pub(crate) fn give_back(&self, seat: &mut QueueSeat<T, K>, ticket: u32, value: T) -> u64
+    fn give_back(&self, seat: &mut QueueSeat<T, K>, ticket: u32, value: T) -> u64
         requires own { seat.old.table_id ≡ self.now.table.shared.table_id }
         requires holds { seat.old ≡ holding seat.old }
         requires ticket { ticket ≡ ticket_of seat.old.me.0.turn % 2 ^ 32 }

@@ -41,7 +41,6 @@ mod taking_out;
 mod telling;
 mod transacting;
 mod truncating;
-mod trying;
 mod vacant;
 
 pub use commit_kind::{Commit, Mode};

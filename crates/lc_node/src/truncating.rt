@@ -89,13 +89,9 @@ impl<D: Area + Drop> Node<D> {
         truncated
     }
 
-    /// Does what `truncate` does, for who has the lock of the log and holds these segments. Where they are not all, a
-    /// record of another is `Unclean`.
-    ///
-    /// # Errors
-    ///
-    /// Those of `truncate`. Where there is no memory for the writes of pages, nothing has changed.
-    pub fn truncate_in(
+    // Does what `truncate` does, for who has the lock of the log and holds these segments. Where they are not all, a
+    // record of another is `Unclean`. Where there is no memory for the writes of pages, nothing has changed.
+    fn truncate_in(
         &self,
         alloc: Global,
         log: &mut LogSide<D>,

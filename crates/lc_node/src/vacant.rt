@@ -28,7 +28,7 @@ impl<T: Keyed<K> + Drop, K> Vacant<T, K> {
         ensures { key_of result ≡ key_of self.lock }
     {
         let Vacant { lock, loan } = self;
-        lock.unlock_silently(value, loan);
+        lock.unlock(value, loan);
         lock
     }
 

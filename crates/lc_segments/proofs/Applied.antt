@@ -1,5 +1,5 @@
 -- What a transaction's work left is the bytes before with the ranges of its record laid over them.
-use Rattle.std.proofs.Common.{◌≡◌, ℕ, zero, suc, ◌+◌, ◌-◌, ◌<◌, ◌==◌, cond, Bool, true, false, List, [], ◌∷◌, length, get_or, filter, map, take, drop, refl, sym, ap, ◌∙◌, ⊎_elim, arith, eqb-true, eq-eqb, true≢false}
+use Rattle.std.proofs.Common.{◌≡◌, ℕ, ◌+◌, ◌-◌, ◌<◌, ◌==◌, cond, Bool, true, false, List, [], ◌∷◌, length, get_or, filter, map, take, drop, refl, sym, ap, ◌∙◌, ⊎_elim, arith, eqb-true, eq-eqb, true≢false}
 use mathlib.Core.Logic.{dite}
 use native.Mathlib.Decide.{dec_le}
 use Rattle.std.proofs.lemmas.List.{ext_get_or, get_or_past, get_or-take, get_or-drop, length-take-le, length-drop}
@@ -8,25 +8,8 @@ use Rattle.lc_record.proofs.SegmentLemmas.{length-put}
 use Rattle.lc_range.specs.declared.range.Range.{Range}
 use Rattle.lc_range.specs.RangeSet.{Has}
 use Rattle.lc_tx.specs.Image.{laid_over}
+use Rattle.lc_tx.proofs.PutLemmas.{put_in, put_out}
 use Rattle.lc_segments.specs.Laid.{data_of, of_segment, LieInside}
-
-put_in : (place : ℕ) (items xs : List ℕ) (k j : ℕ) → k ≡ place + j → j < length items → k < length xs → get_or (put place items xs) k 0 ≡ get_or items j 0
-put_in place items [] k j e l m = absurd (omega arith)
-put_in zero [] (x ∷ xs) k j e l m = absurd (omega arith)
-put_in zero (i ∷ is) (x ∷ xs) zero zero e l m = refl
-put_in zero (i ∷ is) (x ∷ xs) zero (suc j) e l m = absurd (omega arith)
-put_in zero (i ∷ is) (x ∷ xs) (suc k) zero e l m = absurd (omega arith)
-put_in zero (i ∷ is) (x ∷ xs) (suc k) (suc j) e l m = put_in zero is xs k j (omega arith) (omega arith) (omega arith)
-put_in (suc p) items (x ∷ xs) zero j e l m = absurd (omega arith)
-put_in (suc p) items (x ∷ xs) (suc k) j e l m = put_in p items xs k j (omega arith) l (omega arith)
-
-pub put_out : (place : ℕ) (items xs : List ℕ) (k : ℕ) → ((j : ℕ) → j < length items → k ≡ place + j → ⊥) → get_or (put place items xs) k 0 ≡ get_or xs k 0
-put_out place items [] k n = refl
-put_out zero [] (x ∷ xs) k n = refl
-put_out zero (i ∷ is) (x ∷ xs) zero n = absurd (n 0 (omega arith) (omega arith))
-put_out zero (i ∷ is) (x ∷ xs) (suc k) n = put_out zero is xs k (λ j l e. n (suc j) (omega arith) (omega arith))
-put_out (suc p) items (x ∷ xs) zero n = refl
-put_out (suc p) items (x ∷ xs) (suc k) n = put_out p items xs k (λ j l e. n j l (omega arith))
 
 abbrev Laid : ℕ → (ℕ → List ℕ) → List Range → List ℕ → Type 0
 Laid s bytes runs b = laid_over (of_segment s bytes runs) b ≡ bytes s

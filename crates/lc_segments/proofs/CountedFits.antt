@@ -13,7 +13,7 @@ use Rattle.lc_token.specs.declared.token.Token.{Token}
 use Rattle.lc_tx.specs.Image.{laid_over}
 use Rattle.lc_segments.specs.Pages.{FitsPage, FitsToken, page_bytes}
 use Rattle.lc_segments.specs.Touched.{is_on, touched_pages}
-use Rattle.lc_segments.proofs.Applied.{put_out}
+use Rattle.lc_tx.proofs.PutLemmas.{put_out}
 use Rattle.lc_segments.proofs.Laying.{length-laid_over}
 use Rattle.lc_segments.proofs.TouchedPages.{entry-touched_pages, length-touched_pages, on_page}
 

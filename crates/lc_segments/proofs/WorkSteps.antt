@@ -15,7 +15,7 @@ use Rattle.lc_tx.specs.Images.{IsSame, IsSameBut, IsWritten, bytes_of, holders_o
 use Rattle.lc_tx.specs.Tx.{AreSet, Locked, RunsOn, SetsRange}
 use Rattle.lc_tx.proofs.MemberLemmas.{is_one}
 use Rattle.lc_segments.specs.Works.{Works}
-use Rattle.lc_segments.proofs.Applied.{put_out}
+use Rattle.lc_tx.proofs.PutLemmas.{put_out}
 
 module _ {I : Type 0} (m : Ghosts I) where
   -- where all images are the same, only the transaction may have changed

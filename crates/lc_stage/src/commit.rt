@@ -3,7 +3,7 @@ ghost use Rattle.std.specs.Prelude.{◌≡◌, ℕ, ◌+◌, ◌<◌, ◌≤◌,
 ghost use Rattle.std.specs.Prelude.{IsTrue, Err};
 ghost use Rattle.lc_stage.specs.Staging.{latest, HasReached, learns_durable, with_receipt, saw, reserved, filled};
 ghost use Rattle.lc_stage.specs.Staging.{shut_with, newest, offset_of, seal_of, IsOneRecord, Holds, LieBelow};
-ghost use Rattle.lc_stage.specs.Closed.{HasClosed, StandsAt};
+ghost use Rattle.lc_stage.specs.Closed.{HasClosed};
 ghost use Rattle.lc_stage.specs.Receipts.{IsReceiptOf};
 ghost use Rattle.lc_stage.specs.Seats.{commit_view, IsSeatOf, IsRefused, IsIdle};
 ghost use Rattle.lc_stage.specs.declared.fault.StageFault.TheVariants.{Full, Sealed};
@@ -11,7 +11,7 @@ ghost use Rattle.lc_stage.specs.declared.fault.StageFault.TheVariants.{Full, Sea
 use crate::layout::{DURABLE, OFFSETS, ROUNDS, TAIL};
 use crate::plays::{Exchange, FillWord, Learn, LoadTail, Shut};
 use crate::seats::CommitSeat;
-use crate::{ClosedRecord, Receipt, Stage, StageFault};
+use crate::{Receipt, Stage, StageFault};
 
 impl CommitSeat {
     /// Whether a record of it is closed. Where none is, there is nothing that `durable` could give a receipt of.
@@ -19,23 +19,6 @@ impl CommitSeat {
         ensures { IsTrue result ↔ HasClosed (commit_view self.now) }
     {
         self.last.words != 0
-    }
-
-    /// Where the last closed record of it stands, by round and place, whether it is durable or not: exactly where one
-    /// is closed.
-    pub fn last_closed(&self) -> Option<ClosedRecord>
-        ensures some { IfSome result (λ closed. HasClosed (commit_view self.now)
-            × StandsAt (latest (commit_view self.now).mine) closed) }
-        ensures none { IfNone result (¬ HasClosed (commit_view self.now)) }
-    {
-        if self.last.words == 0 {
-            return None;
-        }
-        Some(ClosedRecord {
-            round: self.last.round,
-            place: self.last.place,
-            words: self.last.words,
-        })
     }
 }
 

@@ -16,8 +16,8 @@ pub enum TokenFault {
         /// The token's number.
         seq: u64,
     },
-    /// A record that the token has seen is not on the disk yet.
-    #[error("a record of the segment is not on the disk")]
+    /// A record that the node reserved, of whatever segment, is not on the disk yet.
+    #[error("a record of the node is not on the disk")]
     Unflushed,
     /// A page of the segment is being written.
     #[error("a page of the segment is being written")]

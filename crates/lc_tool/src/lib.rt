@@ -33,7 +33,7 @@ mod verdict;
 pub use answering::answer;
 pub use checking_json::check_store_json;
 pub use copying::copy_store;
-pub use lc_text::{ScriptFault, ToolFault, WriteFault};
+pub use lc_text::{ScriptFault, ToolFault, WriteFault, inspect};
 pub use log_file::inspect_file;
 pub use looking::{check_store, draw_store, dump_page};
 pub use manner::Manner;

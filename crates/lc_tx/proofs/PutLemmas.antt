@@ -1,5 +1,5 @@
 -- Bytes laid over others.
-use Rattle.std.proofs.Common.{◌≡◌, ℕ, zero, suc, ◌+◌, ◌-◌, ◌<◌, ◌==◌, true, false, min, List, [], ◌∷◌, ◌++◌, length, filter, take, drop, Option, Some, None, refl, sym, ap, ◌∙◌, arith}
+use Rattle.std.proofs.Common.{◌≡◌, ℕ, zero, suc, ◌+◌, ◌-◌, ◌<◌, ◌==◌, true, false, min, List, [], ◌∷◌, ◌++◌, length, get_or, filter, take, drop, Option, Some, None, refl, sym, ap, ◌∙◌, arith}
 use Rattle.std.specs.Prelude.{slice_get, if◌then◌else◌}
 use Rattle.std.specs.Option.{option_or, unwrap_or}
 use Rattle.std.proofs.lemmas.List.{drop-drop, ext_get_or}
@@ -9,6 +9,26 @@ use Rattle.lc_record.specs.Newest.{byte_from, byte_of}
 use Rattle.lc_record.specs.declared.record.RangeData.{RangeData}
 use Rattle.lc_record.proofs.SegmentLemmas.{length-put}
 use Rattle.lc_tx.specs.Image.{laid_over}
+
+-- a put byte stands where it was put
+pub put_in : (place : ℕ) (items xs : List ℕ) (k j : ℕ) → k ≡ place + j → j < length items → k < length xs → get_or (put place items xs) k 0 ≡ get_or items j 0
+put_in place items [] k j e l m = absurd (omega arith)
+put_in zero [] (x ∷ xs) k j e l m = absurd (omega arith)
+put_in zero (i ∷ is) (x ∷ xs) zero zero e l m = refl
+put_in zero (i ∷ is) (x ∷ xs) zero (suc j) e l m = absurd (omega arith)
+put_in zero (i ∷ is) (x ∷ xs) (suc k) zero e l m = absurd (omega arith)
+put_in zero (i ∷ is) (x ∷ xs) (suc k) (suc j) e l m = put_in zero is xs k j (omega arith) (omega arith) (omega arith)
+put_in (suc p) items (x ∷ xs) zero j e l m = absurd (omega arith)
+put_in (suc p) items (x ∷ xs) (suc k) j e l m = put_in p items xs k j (omega arith) l (omega arith)
+
+-- each other byte stays
+pub put_out : (place : ℕ) (items xs : List ℕ) (k : ℕ) → ((j : ℕ) → j < length items → k ≡ place + j → ⊥) → get_or (put place items xs) k 0 ≡ get_or xs k 0
+put_out place items [] k n = refl
+put_out zero [] (x ∷ xs) k n = refl
+put_out zero (i ∷ is) (x ∷ xs) zero n = absurd (n 0 (omega arith) (omega arith))
+put_out zero (i ∷ is) (x ∷ xs) (suc k) n = put_out zero is xs k (λ j l e. n (suc j) (omega arith) (omega arith))
+put_out (suc p) items (x ∷ xs) zero n = refl
+put_out (suc p) items (x ∷ xs) (suc k) n = put_out p items xs k (λ j l e. n j l (omega arith))
 
 put_first : (items old : List ℕ) (n : ℕ) → n ≡ min (length items) (length old) → put 0 items old ≡ take n items ++ drop n old
 put_first [] [] zero e = refl

@@ -1,5 +1,0 @@
-pub mod MadeCall
-pub mod Kept
-pub mod Trace
-pub mod Failures
-pub mod TracedArea
