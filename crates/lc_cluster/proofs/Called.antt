@@ -21,7 +21,7 @@ spreads_of gone published old new (Ok s) prefix few most sent left tokens lines 
 spreads_of gone published old new (Err fault) prefix few most sent left tokens lines = tt
 
 module _ {D : Type 0} (cluster : Cluster D) (number segment : ℕ) (member : Member D) (at : slice_get cluster.members.items number ≡ Some member) where
-  node_here : option_map (λ (m : Member D). m.node) (slice_get cluster.members.items number) ≡ Some member.node
+  pub node_here : option_map (λ (m : Member D). m.node) (slice_get cluster.members.items number) ≡ Some member.node
   node_here = ap (λ (o : Option (Member D)). option_map (λ (m : Member D). m.node) o) at
 
   pub has_here : HasSegmentAt cluster number segment → HasSegment member.node segment

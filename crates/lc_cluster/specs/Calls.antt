@@ -3,16 +3,16 @@ use Rattle.std.specs.Prelude.{◌≡◌, ◌≢◌, ℕ, List, Some, Result, sli
 use Rattle.lc_disk.specs.declared.area.Area.{Ghosts}
 use Rattle.lc_lock.specs.Loans.{key_of}
 use Rattle.lc_cluster.specs.Cluster.{node_at}
-use Rattle.lc_cluster.specs.Giving.{HandsOver}
+use Rattle.lc_cluster.specs.Giving.{CutsOff, SendsToken}
 use Rattle.lc_node.specs.Held.{HasSegment}
 use Rattle.lc_segments.specs.Journey.{Journey}
 use Rattle.lc_log_side.specs.LogView.{LogView}
 use Rattle.lc_node.specs.Logs.{IsLogOf}
+use Rattle.lc_node.specs.Parting.{LacksToken, PartsWithIn}
 use Rattle.lc_cluster.specs.Peers.{place_of}
 use Rattle.lc_log_side.specs.Published.{published}
 use Rattle.lc_cluster.specs.Reached.{Pumps}
 use Rattle.lc_cluster.specs.Receiving.{SameOrigins}
-use Rattle.lc_segments.specs.SegView.{SegView}
 use Rattle.lc_cluster.specs.Spread.{SameLines, Spreads}
 use Rattle.lc_cluster.specs.declared.cluster.Cluster.{Cluster}
 use Rattle.lc_cluster.specs.declared.member.Member.{Member}
@@ -55,18 +55,23 @@ module _ {D : Type 0} where
     pub pumps : Pumps member.node old (place_of to from) answer new
     pub others : (other : ℕ) → other ≢ place_of to from → slice_get new other ≡ slice_get old other
 
+  -- this member sent the token to the peer of this number, and it could not
+  abbrev pub SendsTo : Member D → ℕ → ℕ → Journey D → Type 0
+  SendsTo member from to = SendsToken (key_of member.to).to.ends.items (place_of from to)
+
+  abbrev pub IsCutOffFrom : Member D → ℕ → ℕ → Type 0
+  IsCutOffFrom member from to = CutsOff (key_of member.to).to.ends.items (place_of from to)
+
+  -- the node of this number has no such segment, and answered so
+  pub record LacksTokenAt (cluster : Cluster D) (from segment : ℕ) (answer : Result (Unit {0}) NodeFault) : Type 0 where
+    pub node : Node D
+    pub at : node_at cluster from ≡ Some node
+    pub lacks : LacksToken node segment answer
+
 module _ {D : Type 0} (a : Ghosts D) where
   -- the node of this number handed the token of the segment over to another, or refused to, and this is the answer
   pub record HandsOverAt (cluster : Cluster D) (from to segment : ℕ) (answer : Result (Unit {0}) NodeFault) : Type 0 where
     pub member : Member D
     pub at : slice_get cluster.members.items from ≡ Some member
-    pub side : SegView D
-    pub of_segment : side.segment ≡ segment
-    pub log : LogView D
-    pub own : IsLogOf member.node log
-    pub ends : List (PeerEnd (Journey D))
-    pub wired : AreEndsOf member ends
-    pub new_side : SegView D
-    pub new_log : LogView D
-    pub new_ends : List (PeerEnd (Journey D))
-    pub hands_over : HandsOver a from to answer side log ends new_side new_log new_ends
+    pub number : member.node.number ≡ from
+    pub parts : PartsWithIn a member.node segment to (SendsTo member from to) (IsCutOffFrom member from to) answer

@@ -30,7 +30,7 @@ impl<D: Area + Drop> Cluster<D> {
         ensures node { node_at self.now node ≡ Some result.now }
         ensures number { result.now.number ≡ node }
     {
-        &self.member(node).node
+        self.member(node).node.node()
     }
 
     /// Sends the peers of a node the records that it has published and they lack: see `SendEnds::spread`. It waits for
@@ -46,7 +46,7 @@ impl<D: Area + Drop> Cluster<D> {
         ensures memory { OnErr result (1 < length self.now.members.items) }
     {
         let member = self.member(node);
-        let log_lock = member.node.log_lock();
+        let log_lock = member.node.node().log_lock();
         let (log, log_loan) = log_lock.lock(rt);
         let (mut ends, ends_loan) = member.to.lock(rt);
         let spread = ends.spread(rt, alloc, &log);

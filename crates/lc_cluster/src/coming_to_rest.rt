@@ -15,7 +15,7 @@ use crate::joining::Post;
 use crate::leaving_nodes::take_nodes;
 use crate::member::Member;
 use lc_disk::Area;
-use lc_node::{Node, in_order};
+use lc_node::{PeerNode, in_order};
 use lc_rest::{Parts, SegmentPart};
 use lc_segments::{NodeFault, Travelling};
 use lc_stage::CommitSeat;
@@ -72,7 +72,7 @@ impl<D: Area + Drop> Cluster<D> {
 fn take_apart<D: Area + Drop>(
     alloc: Global,
     members: Vec<Member<D>>,
-) -> Result<(Vec<Node<D>>, Vec<Post<Travelling<D>>>), AllocError>
+) -> Result<(Vec<PeerNode<D>>, Vec<Post<Travelling<D>>>), AllocError>
     ensures nodes { IfOk result (λ apart. apart.0.items ≡ map node_in members.items) }
     ensures posts { IfOk result (λ apart. apart.1.items ≡ map post_of members.items) }
 {

@@ -1,17 +1,16 @@
 //! Tokens and records go from node to node.
 ghost use Rattle.std.specs.Prelude.{◌≡◌, ◌≢◌, IfErr};
-ghost use Rattle.lc_cluster.specs.Calls.{HandsOverAt, HasSegmentAt, PumpsAt};
+ghost use Rattle.lc_cluster.specs.Calls.{HandsOverAt, HasSegmentAt, LacksTokenAt, PumpsAt};
 ghost use Rattle.lc_cluster.specs.Cluster.{HasNode};
-ghost use Rattle.lc_cluster.specs.Giving.{IsUngiven};
 ghost use Rattle.lc_node.specs.Held.{IsUnheld};
+ghost use Rattle.lc_node.specs.Parting.{IsUngiven};
 
 use crate::cluster::Cluster;
-use crate::giving::hand_over;
+use crate::line_to_peer::LineToPeer;
 use crate::peers::place_of;
 use lc_disk::Area;
 use lc_node::Pumped;
 use lc_segments::NodeFault;
-use lc_token::TokenFault;
 use std::alloc::Global;
 use std::sync::Wait;
 
@@ -29,27 +28,12 @@ impl<D: Area + Drop> Cluster<D> {
         requires apart { from ≢ to }
         requires within { HasNode self.now from × HasNode self.now to }
         ensures gives { HasSegmentAt self.now from segment → HandsOverAt D.Area self.now from to segment result }
-        ensures no_segment { (HasSegmentAt self.now from segment → ⊥)
-            → result ≡ Err (NodeFault.Token (TokenFault.NotHere segment)) }
+        ensures no_segment { (HasSegmentAt self.now from segment → ⊥) → LacksTokenAt self.now from segment result }
         ensures refused { IfErr result (IsUngiven segment to) }
     {
         let member = self.member(from);
-        let node = &member.node;
-        if !node.has(segment) {
-            return Err(NodeFault::Token {
-                fault: TokenFault::NotHere { segment },
-            });
-        }
-        let lock = node.lock_of(segment);
-        let (mut side, side_loan) = lock.lock(rt);
-        let log_lock = node.log_lock();
-        let (mut log, log_loan) = log_lock.lock(rt);
-        let (mut ends, ends_loan) = member.to.lock(rt);
-        let given = hand_over(&mut side.inner, rt, node, &mut log, from, to, &mut ends);
-        member.to.unlock(ends, ends_loan);
-        log_lock.unlock(log, log_loan);
-        lock.unlock(side, side_loan);
-        given
+        let line = LineToPeer::new(&member.to, place_of(from, to));
+        member.node.part_with(rt, segment, to, &line)
     }
 
     /// Goes on with the next message that one node sent another. A record is taken in at all segments on which it has

@@ -25,11 +25,11 @@ impl<D: Area + Drop> Cluster<D> {
         for place in 0..self.geometry.segments as usize {
             applied[place] = self.least_applied(rt, place);
         }
-        let node = &self.member(node).node;
-        let log_lock = node.log_lock();
+        let peer = &self.member(node).node;
+        let log_lock = peer.node().log_lock();
         let (mut log, log_loan) = log_lock.lock(rt);
         let (mut dropped, loan) = self.dropped.lock(rt);
-        let count = log.trim(&applied, &mut dropped.numbers);
+        let count = peer.trim(&mut log, &applied, &mut dropped.numbers);
         self.dropped.unlock(dropped, loan);
         log_lock.unlock(log, log_loan);
         count
@@ -43,7 +43,7 @@ impl<D: Area + Drop> Cluster<D> {
     {
         let mut least = u64::MAX;
         for member in self.members.as_slice() {
-            let applied = member.node.applied(rt, place);
+            let applied = member.node.node().applied(rt, place);
             least = least.min(applied);
         }
         least

@@ -22,7 +22,7 @@ use crate::send_ends::SendEnds;
 use crate::wiring::{NodeEnds, wire};
 use lc_disk::Area;
 use lc_lock::TicketLock;
-use lc_node::{OpenedNode, Vacant};
+use lc_node::{OpenedNode, PeerNode, Vacant};
 use lc_record::Geometry;
 use lc_recover::Recovered;
 use lc_segments::{NodeFault, Travelling};
@@ -159,6 +159,7 @@ impl<D: Area + Drop> ClusterRoom<D> {
         for _ in 0..nodes.len() {
             let OpenedNode { node, seat } = nodes.remove(0);
             let Post { to, from } = posts.remove(0);
+            let node = PeerNode::new(node);
             members.push_reserved(Member { node, to, from });
             seats.push_reserved(seat);
         }

@@ -11,7 +11,7 @@ ghost use Rattle.lc_node.specs.Refusals.{StopsNode};
 ghost use Rattle.lc_segments.specs.declared.node_fault.NodeFault.TheVariants.{NoMemory};
 
 use lc_disk::Area;
-use lc_node::Node;
+use lc_node::PeerNode;
 use lc_record::Geometry;
 use lc_rest::{NodePart, SegmentPart};
 use lc_segments::NodeFault;
@@ -24,12 +24,12 @@ use std::sync::Wait;
 ///
 /// # Errors
 ///
-/// `Mismatch` of a node's log or seats, as `Node::into_part` says, of the first where it answers one. `NoMemory`.
+/// `Mismatch` of a node's log or seats, as `PeerNode::into_part` says, of the first where it answers one. `NoMemory`.
 pub(crate) fn take_nodes<R: Wait, D: Area + Drop>(
     rt: &R,
     alloc: Global,
     geometry: &Geometry,
-    nodes: Vec<Node<D>>,
+    nodes: Vec<PeerNode<D>>,
     seats: Vec<Vec<CommitSeat>>,
     tokens: &mut Vec<SegmentPart<D>>,
 ) -> Result<Vec<NodePart<D>>, NodeFault>

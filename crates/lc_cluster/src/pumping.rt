@@ -9,7 +9,7 @@ ghost use Rattle.lc_node.specs.declared.message.Message.{Message as Sent};
 
 use crate::recv_ends::RecvEnds;
 use lc_disk::Area;
-use lc_node::{Node, Pumped};
+use lc_node::{PeerNode, Pumped};
 use lc_segments::{NodeFault, Travelling};
 use std::alloc::Global;
 use std::sync::Wait;
@@ -22,7 +22,7 @@ impl<D: Area + Drop> RecvEnds<Travelling<D>> {
         &mut self,
         rt: &R,
         alloc: Global,
-        node: &Node<D>,
+        node: &PeerNode<D>,
         peer: usize,
     ) -> Result<Pumped, NodeFault>
         requires peer { peer < length self.old.ends.items }

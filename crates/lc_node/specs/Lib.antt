@@ -11,6 +11,7 @@ pub mod Refusals
 pub mod Logs
 pub mod MakingRoom
 pub mod OpenedNode
+pub mod Parting
 pub mod Pumping
 pub mod Ran
 pub mod Reached

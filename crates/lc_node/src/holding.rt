@@ -23,8 +23,8 @@ impl<D: Area + Drop> Node<D> {
         segment > 0 && segment as usize <= self.segments.len()
     }
 
-    /// The lock of a segment.
-    pub fn lock_of(&self, segment: u32) -> &TicketLock<BoxedSide<D>, u32>
+    // The lock of a segment. Who has it reaches the segment's token and numbers, so it is the crate's own.
+    pub(crate) fn lock_of(&self, segment: u32) -> &TicketLock<BoxedSide<D>, u32>
         requires { HasSegment self.now segment }
         ensures { key_of result.now ≡ segment }
     {

@@ -21,7 +21,7 @@ impl<D: Area + Drop> Node<D> {
     /// # Errors
     ///
     /// `Mismatch` of the node's log or its seats. `NoMemory`.
-    pub fn into_part<R: Wait>(
+    pub(crate) fn into_part<R: Wait>(
         self,
         rt: &R,
         alloc: Global,

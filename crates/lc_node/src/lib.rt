@@ -25,6 +25,8 @@ mod node;
 mod node_room;
 mod opening;
 mod ordering_tokens;
+mod parting;
+mod peer_node;
 mod preparing;
 mod pumped;
 mod pumping;
@@ -39,6 +41,7 @@ mod staging;
 mod store_room;
 mod taking_out;
 mod telling;
+mod token_line;
 mod transacting;
 mod truncating;
 mod vacant;
@@ -48,12 +51,14 @@ pub use gate::Gate;
 pub use held::Held;
 pub use lc_log_side::{Confirmed, LogSide, starts_stay};
 pub use lc_segments::{
-    Get, NodeFault, Put, SegSide, Snapshot, Travelling, Work, work_is_laid_over, works_nothing,
-    works_range, works_then, works_write,
+    Get, NodeFault, Put, Snapshot, Travelling, Work, work_is_laid_over, works_nothing, works_range,
+    works_then, works_write,
 };
 pub use message::Message;
 pub use node::Node;
 pub use opening::{OpenedNode, open_first};
 pub use ordering_tokens::in_order;
+pub use peer_node::PeerNode;
 pub use pumped::Pumped;
+pub use token_line::TokenLine;
 pub use vacant::Vacant;

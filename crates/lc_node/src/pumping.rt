@@ -9,6 +9,7 @@ ghost use Rattle.lc_node.specs.declared.pumped.Pumped.TheVariants.{Waiting};
 use crate::delivered::Delivered;
 use crate::message::Message;
 use crate::node::Node;
+use crate::peer_node::PeerNode;
 use crate::pumped::Pumped;
 use lc_disk::Area;
 use lc_record::View;
@@ -104,9 +105,9 @@ impl Delivered {
     }
 }
 
-impl<D: Area + Drop> Node<D> {
-    /// Goes on with a message: a record is taken in at all its segments, a token arrives or waits. The message comes
-    /// back where it is refused, and where a token cannot wait.
+impl<D: Area + Drop> PeerNode<D> {
+    /// Goes on with a message of a peer: a record is taken in at all its segments, a token arrives or waits. The message
+    /// comes back where it is refused, and where a token cannot wait.
     pub fn receive<R: Wait>(
         &self,
         rt: &R,
@@ -119,12 +120,13 @@ impl<D: Area + Drop> Node<D> {
         ensures refused { IfErr result.0 (λ fault. IsUnheld fault × IsSome result.1) }
         ensures waits { IsSome result.1 → IfOk result.0 (λ pumped. pumped ≡ Waiting) }
     {
+        let node = &self.inner;
         match message {
-            Message::Record { number, words } => match self.deliver(rt, alloc, words.as_slice()) {
+            Message::Record { number, words } => match node.deliver(rt, alloc, words.as_slice()) {
                 Ok(pumped) => (Ok(pumped), None),
                 Err(fault) => (Err(fault), Some(Message::Record { number, words })),
             },
-            Message::Token(journey) => match self.admit(rt, journey) {
+            Message::Token(journey) => match node.admit(rt, journey) {
                 Ok(pumped) => (Ok(pumped), None),
                 Err(journey) => (Ok(Pumped::Waiting), Some(Message::Token(journey))),
             },

@@ -139,7 +139,7 @@ impl<D: Area + Drop> Node<D> {
     {
         let round = log.truncate(&self.stage, sides, writes)?;
         if self.is_alone {
-            log.forget_ended();
+            log.forget_ended(&self.stage);
         }
         Ok(round)
     }

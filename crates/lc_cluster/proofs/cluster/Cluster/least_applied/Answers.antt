@@ -1,5 +1,7 @@
-use Rattle.std.proofs.Common.{◌≡◌, ◌<◌, ◌≤◌, length, get_or, Some, ap, ◌∙◌, arith}
+use Rattle.std.proofs.Common.{◌≡◌, ◌<◌, ◌≤◌, length, get_or, Some, ap, subst, ◌∙◌, arith}
 use Rattle.std.specs.Prelude.{slice_get}
+use Rattle.lc_node.specs.declared.node.Node.{Node}
+use Rattle.lc_node.specs.Forgetting.{HasApplied}
 use Rattle.lc_cluster.specs.declared.member.Member.{Member}
 use Rattle.lc_log_side.proofs.Backwards.{got_at}
 use Rattle.lc_cluster.proofs.LeastApplied.{least_more, least_of_all}
@@ -13,7 +15,7 @@ loop-member-preserved g c =
     let same = c.as_slice-member-items.ensures.value in
     let within : n < length cluster.members.items = (let less = c.loop-member-test.true in let long = ap (λ l. length l) same in omega (arith, less, long)) in
     let here : slice_get cluster.members.items n ≡ Some member = got_at cluster.members.items n member (c.member-item.is ∙ ap (λ l. get_or l n member) same) within in
-    least_more cluster c.args.place n c.loop-member.least c.applied-applied.result c.min-least.result member c.loop-member.invariant here c.applied-applied.ensures c.applied-applied.type_inv c.min-least.ensures
+    least_more cluster c.args.place n c.loop-member.least c.applied-applied.result c.min-least.result member c.loop-member.invariant here (subst (λ (node : Node g.row.D.Denot). HasApplied node c.args.place c.applied-applied.result) c.node.ensures c.applied-applied.ensures) c.applied-applied.type_inv c.min-least.ensures
 
 pub returns : goal.returns
 returns g c =

@@ -1,6 +1,7 @@
-use Rattle.std.proofs.Common.{◌≡◌, ◌<◌, length, ◌∙◌, arith}
+use Rattle.std.proofs.Common.{◌≡◌, ◌<◌, length, ap, ◌∙◌, arith}
 use Rattle.std.proofs.lemmas.Result.{IfOk-weaker, on_err_weaker}
 use Rattle.lc_lock.specs.Loans.{key_of}
+use Rattle.lc_node.specs.declared.node.Node.{Node}
 use Rattle.lc_cluster.specs.Calls.{SpreadsAt}
 use Rattle.lc_log_side.specs.Published.{published}
 use Rattle.lc_cluster.specs.Spread.{Spreads, line_of}
@@ -17,12 +18,13 @@ spread-spread-requires g c =
 
 pub returns-clause-spread : goal.returns-clause-spread
 returns-clause-spread g c =
+    let its_stage = ap (λ (n : Node g.row.D.Denot). n.stage.table.shared.table_id) c.node.ensures in
     let log = c.lock-log.result.0 in let old = c.lock-ends.result.0.ends.items in let new = c.spread-spread.new.self.ends.items in
     IfOk-weaker c.spread-spread.result (λ s. Spreads log.gone (published log) old s new) (λ s. SpreadsAt c.args.self.now c.args.node s) (λ s spreads. record {
       member = c.member-member.result.now;
       at = c.member-member.ensures.member;
       log = log;
-      own = (c.lock-log.ensures.fits.0 ∙ c.log_lock-log_lock.ensures, c.lock-log.ensures.fits.1 ∙ c.log_lock-log_lock.ensures);
+      own = (c.lock-log.ensures.fits.0 ∙ c.log_lock-log_lock.ensures ∙ its_stage, c.lock-log.ensures.fits.1 ∙ c.log_lock-log_lock.ensures ∙ its_stage);
       old = old;
       wired = c.lock-ends.ensures.fits;
       new = new;

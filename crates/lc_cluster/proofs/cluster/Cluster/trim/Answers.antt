@@ -1,6 +1,7 @@
-use Rattle.std.proofs.Common.{◌≡◌, ℕ, get_or, set, sym, subst, ◌∙◌, inl, inr, arith}
+use Rattle.std.proofs.Common.{◌≡◌, ℕ, ap, get_or, set, sym, subst, ◌∙◌, inl, inr, arith}
 use Rattle.std.proofs.lemmas.Bool.{cases_lt}
 use Rattle.std.proofs.lemmas.List.{get_or-set_same, get_or-set_other, length-set}
+use Rattle.lc_node.specs.declared.node.Node.{Node}
 use Rattle.lc_cluster.specs.Forgetting.{IsLeastApplied}
 use Rattle.lc_cluster.proofs.cluster.Cluster.trim.Goals as goal
 
@@ -21,14 +22,14 @@ loop-place-preserved g c =
     }
 
 pub returns : goal.returns
-returns g c = record {
+returns g c = let its_stage = ap (λ (n : Node g.row.D.Denot). n.stage.table.shared.table_id) c.node.ensures in record {
   member = c.member.result.now;
   at = c.member.ensures.member;
   applied = c.loop-place.applied;
   least = λ place within. c.loop-place.invariant.least place (let end = c.loop-place-test.false in omega (arith, end, within));
   old = c.lock-log.result.0;
-  own = (c.lock-log.ensures.fits.0 ∙ c.log_lock-log_lock.ensures, c.lock-log.ensures.fits.1 ∙ c.log_lock-log_lock.ensures);
-  new = c.trim-count.new.self;
+  own = (c.lock-log.ensures.fits.0 ∙ c.log_lock-log_lock.ensures ∙ its_stage, c.lock-log.ensures.fits.1 ∙ c.log_lock-log_lock.ensures ∙ its_stage);
+  new = c.trim-count.new.log;
   dropped = c.lock-loan.result.0.numbers;
   after = c.trim-count.new.dropped;
   trims = c.trim-count.ensures.trimmed;
