@@ -1,13 +1,14 @@
 -- Receipts are kept.
-use Rattle.std.proofs.Common.{◌≡◌, ℕ, suc, List, ◌∷◌, Option, None, Some, refl, sym, ap, subst, ◌∙◌, inl, inr}
+use Rattle.std.proofs.Common.{◌≡◌, ℕ, suc, List, ◌∷◌, take, Option, None, Some, refl, sym, ap, subst, ◌∙◌, inl, inr}
 use Rattle.std.specs.Prelude.{Bool, true, false, IfErr, Result, Ok, Err}
 use Rattle.lc_stage.specs.Staging.{Owns, latest}
 use Rattle.lc_stage.specs.declared.receipt.Receipt.{Receipt}
 use Rattle.lc_stage.specs.declared.stage_view.Reservation.{Reservation}
 use Rattle.lc_stage.specs.declared.stage_view.StageView.{StageView}
 use Rattle.lc_disk.specs.declared.area.Area.{Ghosts}
-use Rattle.lc_node.specs.Commits.{CommitsAmong}
-use Rattle.lc_node.specs.MakingRoom.{CommitsAlone, CommitsFirst, CommitsInRoom, CommitsOrEmpties, EmptiesAndCommits, EndsIn, TransactsInRoom}
+use Rattle.lc_node.specs.Commits.{CommitsAmong, CommitsOn}
+use Rattle.lc_node.specs.MakingRoom.{CommitsAlone, CommitsFirst, CommitsInRoom, CommitsOrEmpties, EmptiesAndCommits, TransactsInRoom}
+use Rattle.lc_node.specs.Transacting.{EndsIn}
 use Rattle.lc_segments.specs.Ran.{Tells}
 use Rattle.lc_log_side.specs.Receipts.{IsOfDevice, Learns, Receives}
 use Rattle.lc_node.specs.declared.commit_kind.Commit.{Commit}
@@ -33,17 +34,19 @@ receiving v w receipt got = more v w (latest v.mine) (ap (λ (u : StageView). u.
 -- A commit with room made leaves the receipts as they are
 
 module _ {D : Type 0} (node : Node D) (tells : Tells) (tries : ℕ) (v w : StageView) where
-  among : (segments : List ℕ) (r : Result Bool NodeFault) → CommitsAmong node tells segments tries v w r → w.receipts ≡ v.receipts
-  among segments (Ok true) t = ap (λ (u : StageView). u.receipts) (t.closed refl).closes.is
-  among segments (Ok false) t = ap (λ (u : StageView). u.receipts) (t.nothing refl).0
-  among segments (Err fault) t = ap (λ (u : StageView). u.receipts) t.refused.0
+  on : (olds news : List (HeldSide D)) (r : Result Bool NodeFault) → CommitsOn node tells tries olds news v w r → w.receipts ≡ v.receipts
+  on olds news (Ok true) t = ap (λ (u : StageView). u.receipts) (t.committed refl).closes.is
+  on olds news (Ok false) t = ap (λ (u : StageView). u.receipts) (t.nothing refl).0
+  on olds news (Err fault) t = ap (λ (u : StageView). u.receipts) t.refused.0
 
   first : (count : ℕ) (olds news : List (HeldSide D)) (r : Result Bool NodeFault) → CommitsFirst node tells tries count olds news v w r → w.receipts ≡ v.receipts
-  first count olds news (Ok true) t = ap (λ (u : StageView). u.receipts) (t.0.committed refl).closes.is
-  first count olds news (Ok false) t = ap (λ (u : StageView). u.receipts) (t.0.nothing refl).0
-  first count olds news (Err fault) t = ap (λ (u : StageView). u.receipts) t.0.refused.0
+  first count olds news r t = on (take count olds) (take count news) r t.0
 
 module _ {D W : Type 0} (a : Ghosts D) (node : Node D) (ran : W → W → Tells) (tries : ℕ) where
+  among : (segments : List ℕ) (x y : W) (v w : StageView) (r : Result Bool NodeFault) → CommitsAmong node ran tries segments x y v w r → w.receipts ≡ v.receipts
+  among segments x y v w r (inl not) = ap (λ (u : StageView). u.receipts) not.unseen
+  among segments x y v w r (inr t) = on node (ran x y) tries v w t.olds t.news r t.commits
+
   emptied : (count : ℕ) (olds : List (HeldSide D)) (x y : W) (v w : StageView) (r : Result Bool NodeFault) → EmptiesAndCommits a node ran tries count olds x y v w r → w.receipts ≡ v.receipts
   emptied count olds x y v w r (inl not) = ap (λ (u : StageView). u.receipts) not.5
   emptied count olds x y v w r (inr t) = first node (ran x y) tries v w count t.1 t.2 r t.4
@@ -53,12 +56,12 @@ module _ {D W : Type 0} (a : Ghosts D) (node : Node D) (ran : W → W → Tells)
   tried count olds x y v w r (inr t) = emptied count t.3 t.0 y t.1 w r t.6 ∙ first node (ran x t.0) tries v t.1 count olds t.3 t.2 t.4
 
   alone : (segments : List ℕ) (x y : W) (v w : StageView) (r : Result Bool NodeFault) → CommitsAlone a node ran tries segments x y v w r → w.receipts ≡ v.receipts
-  alone segments x y v w r (inl not) = ap (λ (u : StageView). u.receipts) not.4
+  alone segments x y v w r (inl not) = ap (λ (u : StageView). u.receipts) not.unseen
   alone segments x y v w r (inr t) = tried t.0 t.1 x y v w r t.3
 
   in_room : (segments : List ℕ) (x y : W) (v w : StageView) (r : Result Bool NodeFault) → CommitsInRoom a node ran tries segments x y v w r → w.receipts ≡ v.receipts
-  in_room segments x y v w r (inl once) = among node (ran x y) tries v w segments r once.0
-  in_room segments x y v w r (inr t) = alone segments t.0 y t.1 w r t.5 ∙ among node (ran x t.0) tries v t.1 segments t.2 t.3
+  in_room segments x y v w r (inl once) = among segments x y v w r once.0
+  in_room segments x y v w r (inr t) = alone segments t.0 y t.1 w r t.5 ∙ among segments x t.0 v t.1 t.2 t.3
 
   ending : (mode : Mode) (u w : StageView) (done : Result Bool NodeFault) (result : Result Commit NodeFault) → EndsIn mode u done w result → KeepsReceipts u w
   ending mode u w (Err fault) result ends = same u w (ap (λ (z : StageView). z.receipts) ends.1)

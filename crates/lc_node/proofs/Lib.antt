@@ -7,7 +7,6 @@ pub mod Backwards
 pub mod Bringing
 pub mod CommitKeeps
 pub mod CommitPaths
-pub mod Confirms
 pub mod CountedSides
 pub mod Deliveries
 pub mod DeliveryKeeps
@@ -46,4 +45,3 @@ pub mod Taking
 pub mod TakenOut
 pub mod Unbegun
 pub mod Walking
-pub mod WorkClosed

@@ -5,9 +5,9 @@ use Rattle.std.proofs.lemmas.List.{length-map, take-map}
 use Rattle.std.proofs.Math.Seq.{take-append_seam, drop-append_seam}
 use Rattle.lc_record.specs.Record.{Chain}
 use Rattle.lc_stage.specs.declared.stage_view.StageView.{StageView}
-use Rattle.lc_node.specs.Commits.{segments_in}
+use Rattle.lc_node.specs.Commits.{CommitsOn, segments_in}
 use Rattle.lc_segments.specs.Each.{Each}
-use Rattle.lc_node.specs.MakingRoom.{CommitsFirst, CommitsOn}
+use Rattle.lc_node.specs.MakingRoom.{CommitsFirst}
 use Rattle.lc_segments.specs.Ran.{Tells}
 use Rattle.lc_log_side.specs.Truncates.{IsSameHeld}
 use Rattle.lc_segments.specs.declared.held.HeldSide.{HeldSide}

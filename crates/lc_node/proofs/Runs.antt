@@ -1,19 +1,14 @@
--- What is told of a run of a work, over the same bytes, and over the same segments.
-use Rattle.std.proofs.Common.{◌≡◌, ℕ, List, [], ◌∷◌, refl, sym, ap, ◌∙◌, inl, inr, eqb, eq-eqb}
+-- What is told of a run of a work, over the same bytes.
+use Rattle.std.proofs.Common.{ℕ, List, refl, sym, ap, ◌∙◌, inl, inr}
 use Rattle.std.specs.Prelude.{Result, Ok, Err}
-use Rattle.std.proofs.lemmas.Bool.{or_left, false≢true}
 use Rattle.lc_record.specs.Part.{part_of}
-use Rattle.lc_record.specs.Transaction.{is_member}
 use Rattle.lc_record.specs.declared.record.Record.{Record}
 use Rattle.lc_tx.specs.Image.{laid_over}
-use Rattle.lc_tx.specs.Tx.{IsSetOf}
 use Rattle.lc_tx.specs.declared.tx_fault.TxFault.{TxFault}
-use Rattle.lc_node.specs.Commits.{IsUncommitted, IsUnstaged}
+use Rattle.lc_node.specs.Commits.{IsUnstaged}
 use Rattle.lc_segments.specs.Ran.{AgreeOn, Bytes, Ran, Runs, Tells}
 use Rattle.lc_node.specs.Ran.{Brings, IsRefusedFor, ranges_in}
 use Rattle.lc_segments.specs.declared.node_fault.NodeFault.{NodeFault}
-
--- Over the same bytes
 
 pub ran_as : (tells : Tells) (segments : List ℕ) (answer : Result (Unit {0}) TxFault) (old new as_old as_new : Bytes) → AgreeOn segments old as_old → AgreeOn segments new as_new → {set : Runs} → Ran tells segments old answer new set → Ran tells segments as_old answer as_new set
 ran_as tells segments answer old new as_old as_new was left {set} r = record {
@@ -59,52 +54,3 @@ unstaged_as tells unbegun as_unbegun segments old as_old room tries seen fault m
       brings = brings_as b.whole segments old b.new as_old b.new was (same_bytes segments b.new) b.brings;
       why = b.why;
     })
-
--- Over the segments that were asked for
-
-module _ (asked segments : List ℕ) (of : IsSetOf asked segments) where
-  pub ran_among : (tells : Tells) (answer : Result (Unit {0}) TxFault) (old new : Bytes) {set : Runs} → Ran tells segments old answer new set → Ran tells asked old answer new set
-  ran_among tells answer old new {set} r = record {
-    locked = r.locked;
-    are_locked = record { ascends = r.are_locked.ascends; same = λ n. r.are_locked.same n ∙ of.same n };
-    before = r.before;
-    after = r.after;
-    was = λ s is. r.was s (of.same s ∙ is);
-    left = λ s is. r.left s (of.same s ∙ is);
-    told = r.told;
-  }
-
-  pub brings_among : (r : Record) (old new : Bytes) → Brings r segments old new → Brings r asked old new
-  brings_among r old new brings = λ s is. brings s (of.same s ∙ is)
-
-  refused_among : (tells : Tells) (fault : TxFault) (old : Bytes) → IsRefusedFor tells segments old fault → IsRefusedFor tells asked old fault
-  refused_among tells fault old (inl r) = inl (r.0, r.1, ran_among tells (Err fault) old r.0 r.2)
-  refused_among tells fault old (inr r) = inr (r.0, r.1, ran_among tells (Ok tt) old r.0 r.2, r.3)
-
-  -- none is a set of none
-  none_asked : (these : List ℕ) → ((n : ℕ) → is_member n these ≡ is_member n asked) → asked ≡ [] → these ≡ []
-  none_asked [] same none = refl
-  none_asked (x ∷ xs) same none = absurd (false≢true (sym (same x ∙ ap (is_member x) none) ∙ or_left (eqb x x) (is_member x xs) (eq-eqb x x refl)))
-
-  pub uncommitted_among : (tells : Tells) (unbegun as_unbegun : TxFault → Type 0) (old : Bytes) (room tries seen : ℕ) (fault : NodeFault)
-      → ((f : TxFault) → unbegun f → as_unbegun f) → IsUncommitted tells unbegun segments old room tries seen fault → IsUncommitted tells as_unbegun asked old room tries seen fault
-  uncommitted_among tells unbegun as_unbegun old room tries seen fault more (inl none) = inl (none.0, λ e. none.1 (none_asked segments of.same e))
-  uncommitted_among tells unbegun as_unbegun old room tries seen fault more (inr (inl a)) = inr (inl (
-    a.0,
-    a.1,
-    elim a.2 [
-      | inl none ↦ inl (more a.0 none)
-      | inr refused ↦ inr (refused_among tells a.0 old refused)
-    ],
-  ))
-  uncommitted_among tells unbegun as_unbegun old room tries seen fault more (inr (inr b)) = inr (inr (record {
-    new = b.new;
-    set = b.set;
-    ran = ran_among tells (Ok tt) old b.new b.ran;
-    whole = b.whole;
-    words = b.words;
-    is_record = b.is_record;
-    of_runs = b.of_runs;
-    brings = brings_among b.whole old b.new b.brings;
-    why = b.why;
-  }))

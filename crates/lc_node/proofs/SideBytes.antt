@@ -3,24 +3,18 @@ use Rattle.std.proofs.Common.{◌≡◌, ℕ, suc, ◌==◌, cond, Bool, true, f
 use Rattle.std.specs.Prelude.{slice_get, Option, IsSome, IsTrue}
 use Rattle.std.proofs.lemmas.Bool.{or_cases, false≢true}
 use Rattle.std.proofs.lemmas.Option.{slice_get_within, same_Some as some_same}
-use Rattle.lc_record.specs.Part.{part_of}
 use Rattle.lc_record.specs.Transaction.{is_member}
-use Rattle.lc_record.specs.declared.part.Part.{Part}
-use Rattle.lc_record.specs.declared.record.Record.{Record}
 use Rattle.lc_record.proofs.ListLemmas.{slice_get_some as some_at}
 use Rattle.lc_tx.specs.declared.holders.Holders.TheVariants.{Free}
 use Rattle.lc_tx.specs.declared.image.Image.{Image as Picture}
 use Rattle.lc_tx.specs.declared.tx_fault.TxFault.{TxFault}
-use Rattle.lc_tx.specs.Image.{laid_over}
 use Rattle.lc_tx.specs.Images.{bytes_of, holders_of}
-use Rattle.lc_tx.specs.Tx.{IsSetOf}
 use Rattle.lc_node.specs.Attempts.{IsUnbegun}
-use Rattle.lc_node.specs.Commits.{IsKeptTidy, IsUnbegunAmong, IsUnbegunOn, TakesOf, TakesPart, bytes_at, number_at, of_side, shown}
+use Rattle.lc_node.specs.Commits.{IsUnbegunOn, bytes_at, number_at, of_side, shown}
 use Rattle.lc_segments.specs.Each.{Each}
 use Rattle.lc_node.specs.Each.{EachThree}
 use Rattle.lc_segments.specs.HeldImages.{the_images}
 use Rattle.lc_segments.specs.Ran.{AgreeOn}
-use Rattle.lc_node.specs.Ran.{Brings, ranges_in}
 use Rattle.lc_segments.specs.Sides.{number_in, IsOut}
 use Rattle.lc_node.specs.Sides.{IsBack, IsRoomier}
 use Rattle.lc_segments.specs.declared.held.HeldSide.{HeldSide}
@@ -28,7 +22,7 @@ use Rattle.lc_segments.specs.declared.lent.LentSlot.{LentSlot}
 use Rattle.lc_segments.specs.declared.lent.HeldImages.{HeldImages}
 use Rattle.lc_segments.proofs.Slots.{AscendFrom, each_head, each_map, each_tail, got_map, image_is, number_is, same_beside, same_segments, segments_in}
 use Rattle.lc_node.proofs.Slots.{each_to, map_got, member_place}
-use Rattle.lc_node.proofs.Standing.{roomier_image, roomier_segment, takes_segment}
+use Rattle.lc_node.proofs.Standing.{roomier_image, roomier_segment}
 
 later : (x s : ℕ) (xs : List ℕ) → (x == s) ≡ false → IsTrue (is_member s (x ∷ xs)) → IsTrue (is_member s xs)
 later x s xs other is = sym (ap (λ (b : Bool). b || is_member s xs) other) ∙ is
@@ -69,12 +63,6 @@ module _ {D : Type 0} where
   roomier_number : (h g : HeldSide D) → IsRoomier h g → (g.side.segment ≡ h.side.segment) × (number_of g ≡ number_of h)
   roomier_number h g (inl is) = (ap (λ (y : HeldSide D). y.side.segment) is, ap number_of is)
   roomier_number h g (inr is) = (ap (λ (y : HeldSide D). y.side.segment) is.1, ap number_of is.1)
-
-  tidy_shows : (h g : HeldSide D) → IsKeptTidy h g → (g.side.segment ≡ h.side.segment) × (Shows g ≡ Shows h)
-  tidy_shows h g k = let more = roomier_shows h k.0 k.1.0 in (ap (λ (y : HeldSide D). y.side.segment) k.2.same ∙ more.0, k.2.shows ∙ more.1)
-
-  pub tidy_bytes : (xs ys : List (HeldSide D)) → Each IsKeptTidy xs ys → (s : ℕ) → bytes_at ys s ≡ bytes_at xs s
-  tidy_bytes = of_both Shows [] IsKeptTidy tidy_shows
 
   -- What is out of the sides
 
@@ -140,33 +128,3 @@ module _ {D : Type 0} where
         let own : slot.0.segment ≡ g.side.segment =
         some_same slot.0.segment g.side.segment (sym (got_map (λ (s : LentSlot). s.segment) new.slots.items k slot.0 slot.1) ∙ (ap (λ (l : List ℕ). slice_get l k) now_of ∙ got_map (λ (h : HeldSide D). h.side.segment) last k g at)) in
         ap (λ (n : ℕ). bytes_of the_images new n) (sym own) ∙ (ap (λ (i : Picture). i.bytes.items) (image_is new k slot.0 now_up slot.1) ∙ sym (ap (λ (h : HeldSide D). Shows h) is)))
-
-  -- What the parts of a record bring to the sides
-
-  takes_shows : (o : Option Part) (x g : HeldSide D) → TakesPart o x g → laid_over (ranges_in o) (Shows x) ≡ Shows g
-  takes_shows None x g as_before = sym as_before.shows
-  takes_shows (Some part) x g takes = sym takes.shows
-
-  module _ (r : Record) where
-    taken_shows : (h g : HeldSide D) → TakesOf r h g → laid_over (ranges_in (part_of h.side.segment r)) (Shows h) ≡ Shows g
-    taken_shows h g t = ap (λ (bytes : List ℕ). laid_over (ranges_in (part_of h.side.segment r)) bytes) (sym (roomier_shows h t.0 t.1.0).1) ∙ takes_shows (part_of h.side.segment r) t.0 g t.2
-
-    taken_segment : (h g : HeldSide D) → TakesOf r h g → g.side.segment ≡ h.side.segment
-    taken_segment h g t = takes_segment (part_of h.side.segment r) t.0 g t.2 ∙ roomier_segment h t.0 t.1.0
-
-    pub taken_bytes : (xs ys : List (HeldSide D)) → Each (TakesOf r) xs ys → Brings r (segments xs) (bytes_at xs) (bytes_at ys)
-    taken_bytes [] ys e s is = absurd (false≢true is)
-    taken_bytes (x ∷ xs) [] e s is = absurd (let l = e.long in omega arith)
-    taken_bytes (x ∷ xs) (y ∷ ys) e s is =
-        let t = each_head (TakesOf r) x xs y ys e in
-        let next : IsTrue (is_member s (segments xs)) → laid_over (ranges_in (part_of s r)) (bytes_at xs s) ≡ bytes_at ys s = taken_bytes xs ys (each_tail (TakesOf r) x xs y ys e) s in
-        subst (λ (n : ℕ). laid_over (ranges_in (part_of s r)) (cond (x.side.segment == s) (Shows x) (bytes_at xs s)) ≡ cond (n == s) (Shows y) (bytes_at ys s)) (sym (taken_segment x y t))
-        (elim (x.side.segment == s) as (λ (b : Bool). (x.side.segment == s) ≡ b → laid_over (ranges_in (part_of s r)) (cond b (Shows x) (bytes_at xs s)) ≡ cond b (Shows y) (bytes_at ys s)) [
-          | true ↦ λ own. subst (λ (n : ℕ). laid_over (ranges_in (part_of n r)) (Shows x) ≡ Shows y) (eqb-true x.side.segment s own) (taken_shows x y t)
-          | false ↦ λ other. next (later x.side.segment s (segments xs) other is)
-        ] refl)
-
-  -- who sees only the segments
-  pub unbegun_among : (asked these : List ℕ) (sides : List (HeldSide D)) → IsSetOf asked these → (f : TxFault) → IsUnbegunOn these sides f → IsUnbegunAmong asked f
-  unbegun_among asked these sides set f (inl a) = inl (a.0, a.1, sym (set.same a.0) ∙ a.2.member)
-  unbegun_among asked these sides set f (inr b) = let many = b.1 in inr (b.0, (many.0, record { ascends = many.1.ascends; same = λ n. many.1.same n ∙ set.same n }, many.2))

@@ -24,6 +24,7 @@ pub mod Sides
 pub mod Snapshots
 pub mod Stages
 pub mod Telling
+pub mod Transacting
 pub mod Truncates
 pub mod Trimming
 pub mod Forgetting

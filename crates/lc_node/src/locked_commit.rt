@@ -35,7 +35,7 @@ impl<D: Area + Drop> Node<D> {
         requires tries { 0 < tries }
         ensures own { IsSeatOf self.now.stage seat.new }
         ensures idle { IsIdle (commit_view seat.new) }
-        ensures commits { CommitsAmong self.now (W.ran work.old work.new) segments.now tries (commit_view seat.old)
+        ensures commits { CommitsAmong self.now W.ran tries segments.now work.old work.new (commit_view seat.old)
             (commit_view seat.new) result }
     {
         if let [segment] = segments {
@@ -63,7 +63,7 @@ impl<D: Area + Drop> Node<D> {
         requires tries { 0 < tries }
         ensures own { IsSeatOf self.now.stage seat.new }
         ensures idle { IsIdle (commit_view seat.new) }
-        ensures commits { CommitsAmong self.now (W.ran work.old work.new) (segment ∷ []) tries (commit_view seat.old)
+        ensures commits { CommitsAmong self.now W.ran tries (segment ∷ []) work.old work.new (commit_view seat.old)
             (commit_view seat.new) result }
     {
         if !self.has(segment) {

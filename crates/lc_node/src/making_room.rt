@@ -1,15 +1,15 @@
 //! A commit that makes room in the log where it has none.
-ghost use Rattle.std.specs.Prelude.{◌≡◌, ◌<◌, ◌≤◌, ◌↔◌, ℕ, [], All, Err, Ok, IfErr, IfOk, length, take, vec_capacity};
+ghost use Rattle.std.specs.Prelude.{◌≡◌, ◌<◌, ◌≤◌, ◌↔◌, ℕ, [], All, Err, Ok, IfErr, IfOk, OnErr, length, take, vec_capacity};
 ghost use Rattle.lc_record.specs.Record.{Chain};
 ghost use Rattle.lc_stage.specs.Seats.{commit_view, IsSeatOf, IsIdle};
 ghost use Rattle.lc_node.specs.Commits.{segments_in};
 ghost use Rattle.lc_node.specs.Held.{IsFirstOutside, IsHeldOf, IsUnheld};
 ghost use Rattle.lc_node.specs.MakingRoom.{AllHeld, CommitsAlone, CommitsFirst, CommitsInRoom, CommitsOrEmpties};
-ghost use Rattle.lc_node.specs.MakingRoom.{EndsClosed, TransactsInRoom};
+ghost use Rattle.lc_node.specs.MakingRoom.{TransactsInRoom};
 ghost use Rattle.lc_log_side.specs.Receipts.{HasReceipt};
 ghost use Rattle.lc_stage.specs.declared.receipt.Receipt.{Receipt as Given};
 ghost use Rattle.lc_node.specs.declared.commit_kind.Commit.TheVariants.{Flushed};
-ghost use Rattle.lc_segments.specs.declared.node_fault.NodeFault.TheVariants.{NotHere};
+ghost use Rattle.lc_segments.specs.declared.node_fault.NodeFault.TheVariants.{NotHere, NoMemory};
 
 use crate::commit_kind::{Commit, Mode};
 use crate::committing::commit_on;
@@ -68,31 +68,6 @@ impl<D: Area + Drop> Node<D> {
             Err(fault) => (seat, Err(fault)),
             Ok(false) => (seat, Ok(Commit::Empty)),
             Ok(true) => self.end_closed(rt, seat, mode),
-        }
-    }
-
-    // Waits for the record that the seat closed last, where it is to wait.
-    fn end_closed<R: Wait>(
-        &self,
-        rt: &R,
-        seat: CommitSeat,
-        mode: Mode,
-    ) -> (CommitSeat, Result<Commit, NodeFault>)
-        requires own { IsSeatOf self.now.stage seat }
-        requires idle { IsIdle (commit_view seat) }
-        ensures own { IsSeatOf self.now.stage result.0 }
-        ensures idle { IsIdle (commit_view result.0) }
-        ensures ends { EndsClosed mode (commit_view seat) (commit_view result.0) result.1 }
-        ensures received { (receipt : Given) → result.1 ≡ Ok (Flushed receipt)
-            → HasReceipt (commit_view result.0) receipt }
-    {
-        let Mode::Flush = mode else {
-            return (seat, Ok(Commit::Lazy));
-        };
-        let (seat, settled) = self.settle(rt, seat);
-        match settled {
-            Ok(receipt) => (seat, Ok(Commit::Flushed(receipt))),
-            Err(fault) => (seat, Err(fault)),
         }
     }
 
@@ -225,6 +200,7 @@ impl<D: Area + Drop> Node<D> {
         ensures held { IfOk result (λ all. AllHeld self.now segments.now all.count all.held.sides.items) }
         ensures not_here { (s : ℕ) → (result ≡ Err (NotHere s)) ↔ IsFirstOutside self.now segments.now s }
         ensures refused { IfErr result IsUnheld }
+        ensures no_memory { result ≡ Err NoMemory → 0 < length self.now.segments.items }
     {
         if let Some(segment) = self.first_outside(segments) {
             return Err(NodeFault::NotHere { segment });
@@ -258,6 +234,7 @@ fn two_lists<D: Area + Drop>(
 ) -> Result<(Vec<HeldSide<D>>, Vec<HeldSide<D>>), AllocError>
     ensures empty { IfOk result (λ lists. (lists.0.items ≡ []) × (lists.1.items ≡ [])) }
     ensures room { IfOk result (λ lists. (count ≤ vec_capacity lists.0) × (count ≤ vec_capacity lists.1)) }
+    ensures no_memory { OnErr result (0 < count) }
 {
     let first = Vec::with_capacity(alloc, count)?;
     match Vec::with_capacity(alloc, count) {

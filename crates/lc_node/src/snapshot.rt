@@ -12,8 +12,8 @@ use std::alloc::Global;
 use std::sync::Wait;
 
 impl<D: Area + Drop> Node<D> {
-    /// A copy of what this node has of a segment, whether the segment's token is here or not. Where it is elsewhere,
-    /// the bytes are those of an earlier moment of the segment. It waits for the segment's lock.
+    /// Copies a side of the segment, whose lock it waits for: its bytes, and the number of the last record that they
+    /// have. No clause says whose side that is, or of which moment.
     ///
     /// # Errors
     ///

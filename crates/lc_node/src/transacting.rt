@@ -1,18 +1,10 @@
 //! A whole transaction on a running node.
-ghost use Rattle.std.specs.Prelude.{◌≡◌, ◌⊎◌, ◌<◌, ℕ, List, [], All, length, Ok, IfErr, OnOk};
+ghost use Rattle.std.specs.Prelude.{◌≡◌, ◌<◌, Ok};
 ghost use Rattle.lc_stage.specs.declared.receipt.Receipt.{Receipt as Given};
-ghost use Rattle.lc_stage.specs.declared.stage_view.StageView.{StageView};
 ghost use Rattle.lc_stage.specs.Seats.{commit_view, IsSeatOf, IsIdle};
-ghost use Rattle.lc_log_side.specs.Receipts.{HasReceipt, IsOfDevice, Learns, Receives};
-ghost use Rattle.lc_node.specs.Stages.{Sees};
-ghost use Rattle.lc_tx.specs.Tx.{IsSetOf};
-ghost use Rattle.lc_node.specs.Commits.{AreHere, segments_in, ClosesWork, IsUnbegunAmong, IsUncommitted};
-ghost use Rattle.lc_segments.specs.Ran.{Bytes, Ran};
-ghost use Rattle.lc_node.specs.Halting.{IsHalted};
-ghost use Rattle.lc_node.specs.Held.{IsFirstOutside, IsHeldOf};
-ghost use Rattle.lc_segments.specs.declared.held.HeldSide.{HeldSide as Side};
-ghost use Rattle.lc_segments.specs.declared.node_fault.NodeFault.TheVariants.{NotHere, NoMemory};
-ghost use Rattle.lc_node.specs.declared.commit_kind.Commit.TheVariants.{Empty, Lazy, Flushed};
+ghost use Rattle.lc_log_side.specs.Receipts.{HasReceipt};
+ghost use Rattle.lc_node.specs.Transacting.{EndsClosed, Transacts};
+ghost use Rattle.lc_node.specs.declared.commit_kind.Commit.TheVariants.{Flushed};
 
 use crate::commit_kind::{Commit, Mode};
 use crate::gate::Gate;
@@ -50,46 +42,42 @@ impl<D: Area + Drop> Node<D> {
         requires tries { 0 < tries }
         ensures own { IsSeatOf self.now.stage result.0 }
         ensures idle { IsIdle (commit_view result.0) }
-        ensures here { OnOk result.1 ((sides : List (Side D)) × All (IsHeldOf self.now) sides
-            × IsSetOf segments.now (segments_in sides) × AreHere sides) }
-        ensures empty { result.1 ≡ Ok Empty → (commit_view result.0 ≡ commit_view seat)
-            × ((same : Bytes) × Ran (W.ran work.old work.new) segments.now same (Ok tt) same []) }
-        ensures lazy { result.1 ≡ Ok Lazy
-            → ClosesWork self.now.number (W.ran work.old work.new) segments.now (commit_view seat)
-            (commit_view result.0) }
-        ensures flushed { (receipt : Given) → result.1 ≡ Ok (Flushed receipt)
-            → (w : StageView) × ClosesWork self.now.number (W.ran work.old work.new) segments.now (commit_view seat) w
-            × Receives w receipt (commit_view result.0) }
+        ensures transacts { Transacts self.now W.ran tries segments.now mode work.old work.new (commit_view seat)
+            (commit_view result.0) result.1 }
         ensures received { (receipt : Given) → result.1 ≡ Ok (Flushed receipt)
             → HasReceipt (commit_view result.0) receipt }
-        ensures unasked { result.1 ≡ Ok Lazy → mode ≡ Mode.Lazy }
-        ensures asked { (receipt : Given) → result.1 ≡ Ok (Flushed receipt) → mode ≡ Mode.Flush }
-        ensures refused { IfErr result.1 (λ fault. (Sees (commit_view seat) (commit_view result.0)
-            × (((s : ℕ) × (fault ≡ NotHere s) × IsFirstOutside self.now segments.now s)
-            ⊎ (((fault ≡ NoMemory) × (0 < length self.now.segments.items))
-            ⊎ (IsHalted D fault ⊎ ((old : Bytes)
-            × IsUncommitted (W.ran work.old work.new)
-            (IsUnbegunAmong segments.now) segments.now old self.now.stage.room tries
-            (commit_view result.0).seen fault)))))
-            ⊎ (IsOfDevice fault × ((w : StageView)
-            × ClosesWork self.now.number (W.ran work.old work.new) segments.now (commit_view seat) w
-            × Learns w (commit_view result.0)))) }
     {
         let mut seat = seat;
         let committed = self.commit(rt, alloc, &mut seat, segments, work, tries, gate);
         match committed {
             Err(fault) => (seat, Err(fault)),
             Ok(false) => (seat, Ok(Commit::Empty)),
-            Ok(true) => match mode {
-                Mode::Lazy => (seat, Ok(Commit::Lazy)),
-                Mode::Flush => {
-                    let (seat, settled) = self.settle(rt, seat);
-                    match settled {
-                        Ok(receipt) => (seat, Ok(Commit::Flushed(receipt))),
-                        Err(fault) => (seat, Err(fault)),
-                    }
-                }
-            },
+            Ok(true) => self.end_closed(rt, seat, mode),
+        }
+    }
+
+    // Waits for the record that the seat closed last, where it is to wait.
+    pub(crate) fn end_closed<R: Wait>(
+        &self,
+        rt: &R,
+        seat: CommitSeat,
+        mode: Mode,
+    ) -> (CommitSeat, Result<Commit, NodeFault>)
+        requires own { IsSeatOf self.now.stage seat }
+        requires idle { IsIdle (commit_view seat) }
+        ensures own { IsSeatOf self.now.stage result.0 }
+        ensures idle { IsIdle (commit_view result.0) }
+        ensures ends { EndsClosed mode (commit_view seat) (commit_view result.0) result.1 }
+        ensures received { (receipt : Given) → result.1 ≡ Ok (Flushed receipt)
+            → HasReceipt (commit_view result.0) receipt }
+    {
+        let Mode::Flush = mode else {
+            return (seat, Ok(Commit::Lazy));
+        };
+        let (seat, settled) = self.settle(rt, seat);
+        match settled {
+            Ok(receipt) => (seat, Ok(Commit::Flushed(receipt))),
+            Err(fault) => (seat, Err(fault)),
         }
     }
 }

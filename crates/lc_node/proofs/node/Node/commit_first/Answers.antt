@@ -3,7 +3,7 @@ use Rattle.std.proofs.lemmas.List.Elements.{All-append}
 use Rattle.lc_record.proofs.ListLemmas.{All-append_right}
 use Rattle.lc_stage.specs.Seats.{commit_view}
 use Rattle.lc_node.specs.Held.{IsHeldOf}
-use Rattle.lc_node.specs.MakingRoom.{CommitsOn}
+use Rattle.lc_node.specs.Commits.{CommitsOn}
 use Rattle.lc_segments.specs.declared.held.HeldSide.{HeldSide}
 use Rattle.lc_node.proofs.MadeRoom.{commits_first, long_as, written_back}
 use Rattle.lc_node.proofs.node.Node.commit_first.Goals as goal

@@ -1,11 +1,10 @@
-use Rattle.std.proofs.Common.{rules, ◌≡◌, ℕ, ◌-◌, List, [], ◌∷◌, All, get_or, refl, sym, ap, subst, ◌∙◌, arith}
-use Rattle.lc_stage.specs.Seats.{commit_view}
+use Rattle.std.proofs.Common.{rules, ◌≡◌, ℕ, ◌-◌, List, [], ◌∷◌, All, get_or, refl, sym, ap, subst, ◌∙◌, inr, arith}
 use Rattle.lc_tx.specs.Tx.{IsSetOf}
 use Rattle.lc_node.specs.Commits.{segments_in}
 use Rattle.lc_node.specs.Held.{HasSegment, IsHeldOf}
 use Rattle.lc_segments.specs.declared.held.HeldSide.{HeldSide}
 use Rattle.lc_log_side.proofs.Knowing.{all_alone}
-use Rattle.lc_node.proofs.LockedCommit.{commits_among, first_of_one}
+use Rattle.lc_node.proofs.LockedCommit.{first_of_one}
 use Rattle.lc_node.proofs.SegmentLocks.{held_lock, held_now}
 use Rattle.lc_node.proofs.node.Node.commit_one.Goals as goal
 
@@ -61,5 +60,11 @@ returns-clause-commits g c =
     let segments : segments_in olds ≡ c.args.segment ∷ [] = ap (λ (l : List (HeldSide g.row.D.Denot)). segments_in l) c.from_mut-sides.ensures.value ∙ ap (λ (s : ℕ). s ∷ []) is_of in
     let e = c.commit_on-committed.ensures in
     let set : IsSetOf (c.args.segment ∷ []) (segments_in olds) = subst (λ (l : List ℕ). IsSetOf (c.args.segment ∷ []) l) (sym segments) (record { ascends = tt; same = λ n. refl }) in
-    commits_among node (g.W.Work.ran c.args.work.now c.commit_on-committed.new.work) (c.args.segment ∷ []) olds c.commit_on-committed.new.sides c.args.tries
-    (commit_view c.args.seat.now) (commit_view c.commit_on-committed.new.seat) c.commit_on-committed.result held set e.here e.committed e.nothing e.why e.refused
+    inr (record {
+      olds = olds;
+      news = c.commit_on-committed.new.sides;
+      asked = set;
+      got = held;
+      given = e.held;
+      commits = record { here = e.here; committed = e.committed; nothing = e.nothing; why = e.why; absent = e.absent; refused = e.refused };
+    })
