@@ -1,6 +1,6 @@
 -- Of a node: the record of a receipt stands in the stable words.
 use Rattle.std.proofs.Common.{ap}
-use lib.ListN.{get_elem?, get_or-append}
+use lib.ListN.{get_elem?}
 use Rattle.lc_stage.specs.declared.stage_view.StageView.{StageView}
 use Rattle.lc_stage.specs.Staging.{latest}
 use Rattle.lc_stage.specs.declared.receipt.Receipt.{Receipt}

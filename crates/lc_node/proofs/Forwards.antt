@@ -1,7 +1,5 @@
 -- Of a node: a list is changed element by element, from the front.
 use Rattle.std.proofs.Common.{ℕ, ◌≤◌, List, All, length, get_or, refl, arith}
-use mathlib.Core.Logic.{dite}
-use native.Mathlib.Decide.{dec_le}
 use Rattle.std.proofs.lemmas.Option.{slice_get_read}
 use Rattle.std.proofs.lemmas.List.{get_or_default}
 use Rattle.lc_log_side.proofs.Forwards.{Forwards}
