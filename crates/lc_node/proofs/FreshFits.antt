@@ -30,8 +30,8 @@ module _ {D : Type 0} (r : RecoveredStore D) where
   pub of_segment : (segment : ℕ) (room : SegRoom D) → IsRoomOf r segment room → IsOfSegment segment room
   of_segment segment room its = record {
     key = its.key;
-    of_side = ap (λ (v : SegView D). v.segment) its.fresh.side;
-    here = subst (λ (v : SegView D). IsSome v.image) (sym its.fresh.side) refl;
+    of_side = ap (λ (v : SegView D). v.segment) its.side;
+    here = subst (λ (v : SegView D). IsSome v.image) (sym its.side) refl;
   }
 
 module _ {D : Type 0} (a : Ghosts D) (r : RecoveredStore D) (lengths : HaveLengths a r.geometry r.areas) where
@@ -95,14 +95,11 @@ module _ {D : Type 0} (a : Ghosts D) (r : RecoveredStore D) (lengths : HaveLengt
         each = λ page within. subst (FitsPage a 0 area (segment_bytes r (s + 1)) page) (sym (entry_is page (known page within))) (fits_page page (known page within));
       }
 
-      pub fits_room : (room : SegRoom D) → IsRoomOf r (s + 1) room → FitsRoom a (s + 1) room area
-      fits_room room its = let side = its.fresh.side in record {
-        key = its.key;
-        of_side = ap (λ (v : SegView D). v.segment) side;
-        here = subst (λ (v : SegView D). IsSome v.image) (sym side) refl;
-        of_token = ap (λ (t : Token). t.segment) its.fresh.token ∙ sym (ap (λ (v : SegView D). v.segment) side);
-        number = ap (λ (t : Token). t.seq) its.fresh.token ∙ sym (ap (λ (v : SegView D). v.backlog.applied) side);
-        fits = subst (λ (v : SegView D). FitsToken a v.since area room.fresh.token (laid_parts v.applied v.base)) (sym side)
-            (subst (λ (t : Token). FitsToken a 0 area t its.fresh.base.items) (sym its.fresh.token)
-            (subst (FitsToken a 0 area (fresh_token r (s + 1))) (sym its.fresh.bytes) fits_token));
+      pub fits_room : (room : SegRoom D) → IsRoomOf r (s + 1) room → FitsRoom a room area
+      fits_room room its = record {
+        of_token = ap (λ (t : Token). t.segment) its.token ∙ sym (ap (λ (v : SegView D). v.segment) its.side);
+        number = ap (λ (t : Token). t.seq) its.token ∙ sym (ap (λ (v : SegView D). v.backlog.applied) its.side);
+        fits = subst (λ (v : SegView D). FitsToken a v.since area room.token (laid_parts v.applied v.base)) (sym its.side)
+            (subst (λ (t : Token). FitsToken a 0 area t its.base.items) (sym its.token)
+            (subst (FitsToken a 0 area (fresh_token r (s + 1))) (sym its.base_bytes) fits_token));
       }

@@ -15,6 +15,7 @@ pub mod Forwards
 pub mod FromFront
 pub mod FreshFits
 pub mod FreshPages
+pub mod FreshUp
 pub mod Joined
 pub mod LeftParts
 pub mod LeftSegments
@@ -37,6 +38,7 @@ pub mod RunsCounted
 pub mod SegmentLocks
 pub mod Settled
 pub mod SideBytes
+pub mod Sharing
 pub mod Slots
 pub mod StageKeeps
 pub mod Standing

@@ -2,10 +2,9 @@
 use Rattle.std.proofs.Common.{◌≡◌, ℕ, zero, suc, ◌+◌, ◌<◌, ◌≤◌, Bool, true, false, if◌then◌else◌, List, [], ◌∷◌, ◌++◌, Option, None, Some, IfSome, drop, length, set, take, refl, sym, ap, subst, ◌∙◌, arith, inl, inr}
 use Rattle.std.specs.Prelude.{option_map, slice_get}
 use Rattle.std.proofs.lemmas.Bool.{cases_eq, cases_lt}
-use Rattle.std.proofs.lemmas.Option.{slice_get_past, same_Some as one_item}
+use Rattle.std.proofs.lemmas.Option.{slice_get_past}
 use Rattle.std.proofs.lemmas.List.{take-append-le, take_all}
 use Rattle.lc_record.proofs.ListLemmas.{slice_get-drop as get-drop, slice_get-set_same as set_here, slice_get-set_other as set_beside}
-use Rattle.lc_node.proofs.EachPlace.{each_more}
 
 module _ {A : Type 0} where
   -- a list that is changed place by place: up to a place it is changed
@@ -29,25 +28,6 @@ module _ {A : Type 0} where
         rest k behind ∙ none ∙ ap (option_map (f k)) (sym none))
   ]
 
-  -- what stands in a place that may have been emptied stood there before
-  emptied : (has : Bool) (old : Option (Option A)) (x : A) → option_map (λ (o : Option A). if has then None else o) old ≡ Some (Some x) → old ≡ Some (Some x)
-  emptied true None x got = absurd cc
-  emptied true (Some o) x got = absurd cc
-  emptied false None x got = got
-  emptied false (Some o) x got = got
-
-  pub stood : (has : Bool) (old new : Option (Option A)) (x : A) → new ≡ option_map (λ (o : Option A). if has then None else o) old → new ≡ Some (Some x) → old ≡ Some (Some x)
-  stood has old new x is got = emptied has old x (sym is ∙ got)
-
-  never : (old : Option (Option A)) (x : A) → option_map (λ (o : Option A). None) old ≡ Some (Some x) → ⊥
-  never None x got = cc
-  never (Some o) x got = cc
-
-  -- and it was not emptied
-  pub not_emptied : (has : Bool) (old new : Option (Option A)) (x : A) → new ≡ option_map (λ (o : Option A). if has then None else o) old → new ≡ Some (Some x) → has ≡ false
-  not_emptied true old new x is got = absurd (never old x (sym is ∙ got))
-  not_emptied false old new x is got = refl
-
   -- what was taken from it, if it was
   pub taken_is : (P : A → Type 0) (has : Bool) (old taken : Option A) → taken ≡ (if has then old else None) → ((x : A) → old ≡ Some x → P x) → IfSome taken P
   taken_is P true None taken is each = subst (λ (o : Option A). IfSome o P) (sym is) cc
@@ -69,13 +49,6 @@ module _ {A : Type 0} where
       let here : suc i + k ≡ suc (i + k) = omega arith in
       let there : suc (suc i + k) ≡ suc (suc i) + k = omega arith in
       ap (slice_get (x ∷ (take i xs ++ drop (suc i) xs))) here ∙ behind_is xs i k ∙ ap (slice_get (x ∷ xs)) there
-
-  -- one more put into a place of its own
-  pub placed_more : (P : ℕ → A → Type 0) (new xs : List (Option A)) (y : A) (place : ℕ) → new ≡ xs ++ Some y ∷ [] → length xs ≡ place
-      → ((k : ℕ) (x : A) → slice_get xs k ≡ Some (Some x) → P k x) → P place y → (k : ℕ) (x : A) → slice_get new k ≡ Some (Some x) → P k x
-  placed_more P new xs y place is at before here k x got =
-      each_more (λ (k : ℕ) (o : Option A). (x : A) → o ≡ Some x → P k x) new xs (Some y) place is at
-      (λ k o there x same. before k x (there ∙ ap (λ (o : Option A). Some o) same)) (λ x same. subst (P place) (one_item y x same) here) k (Some x) got x refl
 
   -- a part of a list that was lent whole stands there as it came back
   pub all_back : (n : ℕ) (xs ys : List A) → length xs ≡ n → take n (xs ++ ys) ≡ xs

@@ -1,5 +1,5 @@
 -- Of a node: what a segment of a recovered store is, as it comes up at a node.
-use Rattle.std.specs.Prelude.{◌≡◌, ℕ, ◌<◌, ◌≤◌, ◌^◌, List, length, map, Some}
+use Rattle.std.specs.Prelude.{◌≡◌, ℕ, ◌<◌, ◌≤◌, ◌^◌, List, length, map, Option, None, Some}
 use Rattle.std.specs.List.{flat_map}
 use Rattle.std.specs.Global.{Vec}
 use Rattle.lc_record.specs.Marks.{counting}
@@ -8,7 +8,6 @@ use Rattle.lc_page.specs.declared.page_text.PageText.{PageText}
 use Rattle.lc_recover.specs.Recovered.{RecoveredStore, page_of, sequence_of}
 use Rattle.lc_token.specs.declared.token.Token.{Token}
 use Rattle.lc_segments.specs.SegView.{SegView}
-use Rattle.lc_node.specs.declared.fresh.FreshSegment.{FreshSegment}
 use Rattle.lc_segments.specs.declared.page_area.PageArea.TheVariants.{Serves}
 use Rattle.lc_segments.specs.Fresh.{elsewhere_side}
 
@@ -30,17 +29,15 @@ module _ {D : Type 0} where
     pages = map new_entry (segment_texts r segment);
   }
 
-  -- with its token there, and an area that serves, each page of which was written there
-  abbrev pub fresh_side : FreshSegment D → D → SegView D
-  fresh_side s area = record s.side { standing = record s.side.standing { token = Some s.token }; pages = Serves area }
+  -- a segment that gets a token and an area of its pages, if it gets them
+  abbrev pub served : Token → Option D → SegView D → SegView D
+  served token None side = side
+  served token (Some area) side = record side { standing = record side.standing { token = Some token }; pages = Serves area }
 
-  -- a segment's bytes, twice, and its token
-  pub record IsFresh (r : RecoveredStore D) (segment : ℕ) (s : FreshSegment D) : Type 0 where
-    pub image : Vec ℕ
-    pub base : Vec ℕ
-    pub side : s.side ≡ elsewhere_side segment (sequence_of r segment) image base
-    pub bytes : base.items ≡ segment_bytes r segment
-    pub token : s.token ≡ fresh_token r segment
+  -- a segment of these bytes, twice: it counts on from its number in the store, and nothing is applied, held back or waiting; with
+  -- its token on this area, and without both where there is none
+  abbrev pub fresh_side : RecoveredStore D → ℕ → Vec ℕ → Vec ℕ → Option D → SegView D
+  fresh_side r segment image base area = served (fresh_token r segment) area (elsewhere_side segment (sequence_of r segment) image base)
 
   -- each page of a segment has 256 bytes, and a sequence of at most the segment's number, which is at most 2^60
   pub record HasWholePages (r : RecoveredStore D) (segment : ℕ) : Type 0 where

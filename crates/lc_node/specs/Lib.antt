@@ -4,6 +4,8 @@ pub mod Delivering
 pub mod Each
 pub mod Flushes
 pub mod Fresh
+pub mod FreshNode
+pub mod FreshSegment
 pub mod Halting
 pub mod Held
 pub mod LeftBy

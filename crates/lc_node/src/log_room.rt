@@ -1,13 +1,14 @@
 //! The memory of a node's log, taken before its area is.
-ghost use Rattle.std.specs.Prelude.{◌≡◌, ◌≢◌, ◌+◌, ◌*◌, ◌%◌, ◌<◌, ◌≤◌, ℕ, true, false, [], Some, length, slice_get};
-ghost use Rattle.std.specs.Prelude.{slice_index, vec_capacity, vec_len, IfOk};
-ghost use Rattle.lc_lock.specs.declared.ticket_lock.TicketLock.{TicketLock as Keeps};
+ghost use Rattle.std.specs.Prelude.{◌≡◌, ◌≢◌, ◌+◌, ◌*◌, ◌%◌, ◌<◌, ◌≤◌, true, false, [], length, slice_index};
+ghost use Rattle.std.specs.Prelude.{vec_capacity, vec_len, IfOk};
 ghost use Rattle.lc_lock.specs.Loans.{key_of};
 ghost use Rattle.lc_stage.specs.Staging.{newcomer, flusher as first_flusher};
 ghost use Rattle.lc_stage.specs.Seats.{commit_view, flush_view, IsFlusherOf, IsSeatOf};
-ghost use Rattle.lc_segments.specs.SegView.{SegView};
+ghost use Rattle.lc_node.specs.FreshNode.{IsFreshLog};
+ghost use Rattle.lc_node.specs.FreshSegment.{StandInOrder};
 
-use crate::node::Node;
+use crate::fresh_node::FreshNode;
+use crate::fresh_segment::FreshSegment;
 use crate::room_turn::RoomTurn;
 use crate::vacant::Vacant;
 use lc_disk::Area;
@@ -18,10 +19,9 @@ use lc_record::{Geometry, Group};
 use lc_segments::BoxedSide;
 use lc_stage::{CommitSeat, FlushSeat, Stage};
 use std::alloc::{AllocError, Global};
-use std::sync::atomic::AtomicIn;
 
 /// A node's stage with the first committer's seat, and its log before the area is there. It is never dropped: it ends
-/// in `open` or in `discard`.
+/// in `fill` or in `discard`.
 pub struct LogRoom<D: Area + Drop> {
     pub stage: Stage,
     pub(crate) seat: CommitSeat,
@@ -73,30 +73,32 @@ impl<D: Area + Drop> LogRoom<D> {
         })
     }
 
-    /// The node of this number of a store of this geometry with these segments, which are all, which may have peers,
-    /// and whose log is on this area, which begins with no open gate. It takes no memory.
-    pub(crate) fn open(
+    /// The node of this number as it comes up, of a store of this geometry with these segments, which are all, and with
+    /// the locks' list. Its log is on this area, which begins with no open gate. It takes no memory.
+    pub(crate) fn fill(
         self,
         geometry: Geometry,
         number: u16,
         area: D,
-        segments: Vec<TicketLock<BoxedSide<D>, u32>>,
-    ) -> (Node<D>, CommitSeat)
+        segments: Vec<FreshSegment<D>>,
+        locks: Vec<TicketLock<BoxedSide<D>, u32>>,
+    ) -> FreshNode<D>
         requires number { number ≤ 7 }
         requires room { 8 * self.stage.room + 8 ≤ length (D.now area) }
         requires closed { D.honest area ≡ true → slice_index (D.now area) 0 % 256 ≢ 165 }
         requires clean { D.honest area ≡ true → D.dirty area 0 ≡ false }
-        requires in_order { (place : ℕ) (lock : Keeps (SegView D) ℕ) → slice_get segments.items place ≡ Some lock
-            → key_of lock ≡ place + 1 }
+        requires in_order { StandInOrder segments.items }
         requires few { vec_len segments ≤ 16 }
         requires all_segments { vec_len segments ≡ geometry.segments }
         requires words { self.stage.room ≡ geometry.words }
-        ensures seat { IsSeatOf result.0.stage result.1 × (result.1 ≡ self.seat) }
-        ensures geometry { result.0.geometry ≡ geometry }
-        ensures number { result.0.number ≡ number }
-        ensures room { result.0.stage.room ≡ self.stage.room }
-        ensures segments { result.0.segments ≡ segments }
-        ensures peers { result.0.is_alone ≡ false }
+        requires empty { locks.items ≡ [] }
+        requires space { vec_len segments ≤ vec_capacity locks }
+        ensures seat { IsSeatOf result.stage result.seat × (result.seat ≡ self.seat) }
+        ensures stage { result.stage ≡ self.stage }
+        ensures geometry { result.geometry ≡ geometry }
+        ensures number { result.number ≡ number }
+        ensures log { IsFreshLog result.stage area result.log }
+        ensures segments { result.segments ≡ segments }
     {
         let LogRoom {
             stage,
@@ -107,20 +109,20 @@ impl<D: Area + Drop> LogRoom<D> {
             stable,
             ended,
             room_turns,
-            lock,
+            lock: log_lock,
         } = self;
-        let log = lock.fill(LogSide::new(flusher, probe, area, group, stable, ended));
-        let node = Node {
+        let log = LogSide::new(flusher, probe, area, group, stable, ended);
+        FreshNode {
             geometry,
             number,
             stage,
+            seat,
             log,
-            segments,
+            log_lock,
             room_turns,
-            halted: AtomicIn::new(0),
-            is_alone: false,
-        };
-        (node, seat)
+            segments,
+            locks,
+        }
     }
 
     /// The log does not come up.

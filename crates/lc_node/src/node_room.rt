@@ -1,11 +1,13 @@
 //! The memory of a node of a recovered store, taken before its areas are.
-ghost use Rattle.std.specs.Prelude.{◌≡◌, ◌≤◌, [], false, length, vec_capacity, vec_len, IfOk};
-ghost use Rattle.lc_stage.specs.Seats.{IsSeatOf};
-ghost use Rattle.lc_node.specs.Rooms.{AreOfSegments, FitsLog, FitRooms, IsRoomFor};
+ghost use Rattle.std.specs.Prelude.{◌≡◌, ◌≤◌, [], length, vec_capacity, vec_len, IfOk};
+ghost use Rattle.lc_node.specs.FreshNode.{IsFreshLog};
+ghost use Rattle.lc_node.specs.Rooms.{AreFilled, AreOfSegments, FitsLog, FitRooms, IsRoomFor};
 ghost use Rattle.lc_node.specs.Shares.{AreShared};
+ghost use Rattle.lc_stage.specs.Seats.{IsSeatOf};
 
+use crate::fresh_node::FreshNode;
+use crate::fresh_segment::{FreshSegment, discard_segments};
 use crate::log_room::LogRoom;
-use crate::opening::OpenedNode;
 use crate::seg_room::{SegRoom, discard_all, fill_all, rooms_of};
 use crate::share::Share;
 use lc_disk::Area;
@@ -15,10 +17,11 @@ use lc_recover::Recovered;
 use lc_segments::BoxedSide;
 use std::alloc::{AllocError, Global};
 
-/// All memory of a node. It is never dropped: it ends in `open` or in `discard`.
+/// All memory of a node. It is never dropped: it ends in `fill` or in `discard`.
 pub struct NodeRoom<D: Area + Drop> {
     pub log: LogRoom<D>,
     pub segments: Vec<SegRoom<D>>,
+    pub(crate) fresh: Vec<FreshSegment<D>>,
     pub(crate) locks: Vec<TicketLock<BoxedSide<D>, u32>>,
 }
 
@@ -30,28 +33,34 @@ impl<D: Area + Drop> NodeRoom<D> {
         let geometry = recovered.geometry();
         let locks = Vec::with_capacity(alloc, geometry.segments as usize)?;
         let log = LogRoom::new(alloc, geometry.words)?;
+        let Ok(fresh) = Vec::with_capacity(alloc, geometry.segments as usize) else {
+            log.discard();
+            return Err(AllocError);
+        };
         match rooms_of(alloc, recovered) {
             Ok(segments) => Ok(NodeRoom {
                 log,
                 segments,
+                fresh,
                 locks,
             }),
             Err(fault) => {
+                fresh.destroy_empty();
                 log.discard();
                 Err(fault)
             }
         }
     }
 
-    /// The node comes up, of a store of this geometry, with its log on this area. The segments whose tokens are its
-    /// share have the areas at their places, which are taken. It takes no memory.
-    pub(crate) fn open(
+    /// The node as it comes up, of a store of this geometry, with its log on this area. The segments whose tokens are
+    /// its share have the areas at their places, which are taken. It takes no memory.
+    pub(crate) fn fill(
         self,
         geometry: Geometry,
         share: Share,
         log: D,
         pages: &mut [Option<D>],
-    ) -> OpenedNode<D>
+    ) -> FreshNode<D>
         requires log { FitsLog D.Area self.log.stage.room log }
         requires count { vec_len self.segments ≡ length pages.old }
         requires few { vec_len self.segments ≤ 16 }
@@ -59,25 +68,28 @@ impl<D: Area + Drop> NodeRoom<D> {
         requires words { self.log.stage.room ≡ geometry.words }
         requires rooms { AreOfSegments self.segments.items }
         requires fits { FitRooms D.Area self.segments.items pages.old }
+        requires none_filled { self.fresh.items ≡ [] }
+        requires room { vec_len self.segments ≤ vec_capacity self.fresh }
         requires empty { self.locks.items ≡ [] }
         requires space { vec_len self.segments ≤ vec_capacity self.locks }
-        ensures seat { IsSeatOf result.node.stage result.seat × (result.seat ≡ self.log.seat) }
-        ensures geometry { result.node.geometry ≡ geometry }
-        ensures number { result.node.number ≡ share.number }
-        ensures room { result.node.stage.room ≡ self.log.stage.room }
-        ensures segments { length result.node.segments.items ≡ vec_len self.segments }
-        ensures peers { result.node.is_alone ≡ false }
+        ensures seat { IsSeatOf result.stage result.seat × (result.seat ≡ self.log.seat) }
+        ensures stage { result.stage ≡ self.log.stage }
+        ensures geometry { result.geometry ≡ geometry }
+        ensures number { result.number ≡ share.number }
+        ensures log { IsFreshLog result.stage log result.log }
+        ensures segments { vec_len result.segments ≡ vec_len self.segments }
+        ensures filled { AreFilled share.number share.nodes self.segments.items pages.old result.segments.items }
         ensures places { length pages.new ≡ length pages.old }
         ensures shared { AreShared share.number share.nodes pages.old pages.new }
     {
         let NodeRoom {
             log: log_room,
             segments,
+            fresh,
             locks,
         } = self;
-        let locks = fill_all(share, segments, pages, locks);
-        let (node, seat) = log_room.open(geometry, share.number as u16, log, locks);
-        OpenedNode { node, seat }
+        let segments = fill_all(share, segments, pages, fresh);
+        log_room.fill(geometry, share.number as u16, log, segments, locks)
     }
 
     /// The node does not come up.
@@ -85,9 +97,11 @@ impl<D: Area + Drop> NodeRoom<D> {
         let NodeRoom {
             log,
             segments,
+            fresh,
             locks: _locks,
         } = self;
         log.discard();
         discard_all(segments);
+        discard_segments(fresh);
     }
 }

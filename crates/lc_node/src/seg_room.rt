@@ -1,25 +1,26 @@
 //! The memory of the segments of a recovered store, taken before its areas are.
 ghost use Rattle.std.specs.Prelude.{◌≡◌, ◌+◌, ◌≤◌, ℕ, [], Some, length, slice_get, vec_capacity, vec_len, IfOk, IfSome};
-ghost use Rattle.lc_lock.specs.declared.ticket_lock.TicketLock.{TicketLock as Keeps};
 ghost use Rattle.lc_lock.specs.Loans.{key_of};
-ghost use Rattle.lc_node.specs.Rooms.{AreOfSegments, FitsRoom, FitRooms, IsOfSegment, IsRoomOf};
-ghost use Rattle.lc_segments.specs.SegView.{SegView};
+ghost use Rattle.lc_node.specs.FreshSegment.{StandInOrder};
+ghost use Rattle.lc_node.specs.Rooms.{AreFilled, AreOfSegments, FitsRoom, FitRooms, IsOfSegment, IsRoomOf, side_on};
 ghost use Rattle.lc_node.specs.Shares.{AreShared};
 ghost use Rattle.lc_node.specs.declared.seg_room.SegRoom.{SegRoom as Room};
 
-use crate::fresh::FreshSegment;
+use crate::fresh_segment::FreshSegment;
+use crate::recovered_pages::{bytes_of, pages_of};
 use crate::share::Share;
 use crate::vacant::Vacant;
 use lc_disk::Area;
-use lc_lock::TicketLock;
 use lc_recover::Recovered;
-use lc_segments::BoxedSide;
+use lc_segments::{BoxedSide, SegSide};
+use lc_token::Token;
 use std::alloc::{AllocError, Global};
 
-/// A segment of a recovered store, and the lock that waits for it. It is never dropped: it ends in `fill_all` or in
-/// `discard`.
+/// What a segment needs of memory at a node, with what the recovery has made of it: the segment as it is where its
+/// token is not, its token, and the lock that waits for it. It is never dropped: it ends in `fill_all` or in `discard`.
 pub struct SegRoom<D: Area + Drop> {
-    pub(crate) fresh: FreshSegment<D>,
+    pub(crate) side: BoxedSide<D>,
+    pub(crate) token: Token,
     pub lock: Vacant<BoxedSide<D>, u32>,
 }
 
@@ -34,46 +35,41 @@ impl<D: Area + Drop> SegRoom<D> {
         requires last { segment ≤ recovered.now.geometry.segments }
         ensures { IfOk result (IsRoomOf recovered.now segment) }
     {
-        let fresh = FreshSegment::new(alloc, segment, recovered)?;
+        let number = recovered.sequence(segment);
+        let image = bytes_of(alloc, segment, recovered)?;
+        let base = bytes_of(alloc, segment, recovered)?;
+        let pages = pages_of(alloc, segment, recovered)?;
+        let side = SegSide::elsewhere(alloc, segment, number, image, base);
+        let side = BoxedSide::new(alloc, side)?;
+        let token = Token::recovered(segment, number, pages);
         let lock = Vacant::new(alloc, &segment)?;
-        Ok(SegRoom { fresh, lock })
+        Ok(SegRoom { side, token, lock })
     }
 
-    // The lock with the segment: on the area of its pages, or without one where another node has the token. It takes no
-    // memory.
-    fn come_up(self, segment: u32, area: Option<D>) -> TicketLock<BoxedSide<D>, u32>
-        requires room { IsOfSegment segment self }
-        requires fits { IfSome area (FitsRoom D.Area segment self) }
-        ensures { key_of result ≡ segment }
+    // The segment as it comes up: with its token on the area of its pages, or where another node has the token. It takes
+    // no memory.
+    fn fill(self, area: Option<D>) -> FreshSegment<D>
+        requires room { IsOfSegment (key_of self.lock.lock) self }
+        requires fits { IfSome area (FitsRoom D.Area self) }
+        ensures side { result.side ≡ side_on self area }
+        ensures key { key_of result.lock.lock ≡ key_of self.lock.lock }
     {
-        match area {
-            Some(area) => self.fill(segment, area),
-            None => self.fill_elsewhere(segment),
+        let SegRoom {
+            mut side,
+            token,
+            lock,
+        } = self;
+        if let Some(area) = area {
+            side.inner.serve(token, area);
         }
-    }
-
-    /// The lock with the segment, on the area of its pages.
-    pub fn fill(self, segment: u32, area: D) -> TicketLock<BoxedSide<D>, u32>
-        requires fits { FitsRoom D.Area segment self area }
-        ensures { key_of result ≡ segment }
-    {
-        let SegRoom { fresh, lock } = self;
-        lock.fill(fresh.with_area(area))
-    }
-
-    // The lock with the segment, whose token is at another node.
-    fn fill_elsewhere(self, segment: u32) -> TicketLock<BoxedSide<D>, u32>
-        requires room { IsOfSegment segment self }
-        ensures { key_of result ≡ segment }
-    {
-        let SegRoom { fresh, lock } = self;
-        lock.fill(fresh.elsewhere())
+        FreshSegment { side, lock }
     }
 
     /// The segment does not come up.
     pub fn discard(self) {
         let SegRoom {
-            fresh: _fresh,
+            side: _side,
+            token: _token,
             lock,
         } = self;
         lock.discard();
@@ -103,35 +99,35 @@ pub(crate) fn rooms_of<D: Area + Drop>(
     Ok(rooms)
 }
 
-/// The segments come up at a node, in the room that is there for their locks. Those whose tokens are its share have the
-/// areas at their places, which are taken.
+/// The segments as they come up at a node, in the room that is there for them. Those whose tokens are its share have
+/// the areas at their places, which are taken. It takes no memory.
 pub(crate) fn fill_all<D: Area + Drop>(
     share: Share,
     rooms: Vec<SegRoom<D>>,
     pages: &mut [Option<D>],
-    locks: Vec<TicketLock<BoxedSide<D>, u32>>,
-) -> Vec<TicketLock<BoxedSide<D>, u32>>
+    fresh: Vec<FreshSegment<D>>,
+) -> Vec<FreshSegment<D>>
     requires count { vec_len rooms ≡ length pages.old }
     requires few { vec_len rooms ≤ 16 }
     requires rooms { AreOfSegments rooms.items }
     requires fits { FitRooms D.Area rooms.items pages.old }
-    requires empty { locks.items ≡ [] }
-    requires space { vec_len rooms ≤ vec_capacity locks }
+    requires empty { fresh.items ≡ [] }
+    requires space { vec_len rooms ≤ vec_capacity fresh }
     ensures count { vec_len result ≡ vec_len rooms }
-    ensures in_order { (place : ℕ) (lock : Keeps (SegView D) ℕ) → slice_get result.items place ≡ Some lock
-        → key_of lock ≡ place + 1 }
+    ensures in_order { StandInOrder result.items }
+    ensures filled { AreFilled share.number share.nodes rooms.items pages.old result.items }
     ensures places { length pages.new ≡ length pages.old }
     ensures shared { AreShared share.number share.nodes pages.old pages.new }
 {
-    let (mut rooms, mut locks) = (rooms, locks);
+    let (mut rooms, mut fresh) = (rooms, fresh);
     for place in 0..pages.len() {
         let segment = place as u32 + 1;
         let room = rooms.remove(0);
         let area = share.take(segment, &mut pages[place]);
-        locks.push_reserved(room.come_up(segment, area));
+        fresh.push_reserved(room.fill(area));
     }
     rooms.destroy_empty();
-    locks
+    fresh
 }
 
 /// No segment comes up.

@@ -1,24 +1,24 @@
 //! The memory of the nodes of a recovered store, taken before the store is taken apart.
-ghost use Rattle.std.specs.Prelude.{◌≡◌, ◌≤◌, ◌<◌, All, length, vec_len, IfOk};
+ghost use Rattle.std.specs.Prelude.{◌≡◌, ◌≤◌, ◌<◌, vec_len, IfOk};
 ghost use Rattle.lc_recover.specs.Reads.{HaveLengths};
 ghost use Rattle.lc_recover.specs.Recovered.{AreFinished};
+ghost use Rattle.lc_node.specs.FreshNode.{AreFreshNodes};
 ghost use Rattle.lc_node.specs.Rooms.{AreRoomsFor, IsStoreRoom};
-ghost use Rattle.lc_node.specs.OpenedNode.{IsOpened, StandByNumber};
 
 use crate::areas::{Areas, end_places};
+use crate::fresh_node::FreshNode;
 use crate::node_room::NodeRoom;
-use crate::opening::OpenedNode;
 use crate::share::Share;
 use lc_disk::Area;
 use lc_recover::Recovered;
 use std::alloc::{AllocError, Global};
 
 /// The memory of some nodes of a store, with the places for the areas of its segments. It is never dropped: it ends in
-/// `open`.
+/// `fill`.
 pub struct StoreRoom<D: Area + Drop> {
     pub nodes: Vec<NodeRoom<D>>,
     pub(crate) places: Vec<Option<D>>,
-    pub(crate) opened: Vec<OpenedNode<D>>,
+    pub(crate) fresh: Vec<FreshNode<D>>,
 }
 
 impl<D: Area + Drop> StoreRoom<D> {
@@ -30,33 +30,36 @@ impl<D: Area + Drop> StoreRoom<D> {
     ) -> Result<StoreRoom<D>, AllocError>
         ensures { IfOk result (IsStoreRoom recovered.now nodes) }
     {
-        let opened = Vec::with_capacity(alloc, nodes as usize)?;
         let places = Vec::with_capacity(alloc, recovered.geometry().segments as usize)?;
-        let nodes = rooms_for(alloc, recovered, nodes)?;
-        Ok(StoreRoom {
-            nodes,
-            places,
-            opened,
-        })
+        let fresh = Vec::with_capacity(alloc, nodes as usize)?;
+        match rooms_for(alloc, recovered, nodes) {
+            Ok(nodes) => Ok(StoreRoom {
+                nodes,
+                places,
+                fresh,
+            }),
+            Err(fault) => {
+                fresh.destroy_empty();
+                Err(fault)
+            }
+        }
     }
 
-    /// The nodes come up, from node 0 on, each on the area of its log. They share the tokens, and with them the areas
-    /// of the segments, so that none is left. The areas of other nodes' logs are dropped. It takes no memory.
-    pub(crate) fn open(self, recovered: Recovered<D>) -> Vec<OpenedNode<D>>
+    /// The nodes as they come up, from node 0 on, each on the area of its log. They share the tokens, and with them the
+    /// areas of the segments, so that none is left. The areas of other nodes' logs are dropped. It takes no memory.
+    pub(crate) fn fill(self, recovered: Recovered<D>) -> Vec<FreshNode<D>>
         requires room { IsStoreRoom recovered (vec_len self.nodes) self }
         requires some { 0 < vec_len self.nodes }
         requires within { vec_len self.nodes ≤ recovered.geometry.nodes }
         requires few { vec_len self.nodes ≤ 8 }
         requires lengths { HaveLengths D.Area recovered.geometry recovered.areas }
         requires finished { AreFinished D.Area recovered }
-        ensures count { length result.items ≡ vec_len self.nodes }
-        ensures each { All (IsOpened recovered) result.items }
-        ensures numbered { StandByNumber result.items }
+        ensures { AreFreshNodes recovered (vec_len self.nodes) result.items }
     {
         let StoreRoom {
             nodes: mut rooms,
             places,
-            mut opened,
+            mut fresh,
         } = self;
         let count = rooms.len() as u32;
         let geometry = recovered.geometry();
@@ -68,11 +71,11 @@ impl<D: Area + Drop> StoreRoom<D> {
             let room = rooms.remove(0);
             let log = logs.remove(0);
             let share = Share::new(number, count);
-            opened.push_reserved(room.open(geometry, share, log, pages.as_mut_slice()));
+            fresh.push_reserved(room.fill(geometry, share, log, pages.as_mut_slice()));
         }
         rooms.destroy_empty();
         end_places(pages);
-        opened
+        fresh
     }
 }
 

@@ -1,9 +1,11 @@
-use Rattle.std.proofs.Common.{◌≡◌, ℕ, ◌+◌, ◌<◌, ◌++◌, List, Some, length, suc, take, drop, sym, ap, ◌∙◌, arith}
+use Rattle.std.proofs.Common.{◌≡◌, ℕ, ◌+◌, ◌<◌, ◌++◌, List, Option, Some, length, suc, take, drop, sym, ap, ◌∙◌, arith}
 use Rattle.std.specs.Prelude.{slice_get}
 use Rattle.std.specs.List.{remove}
 use Rattle.std.proofs.lemmas.Option.{slice_get-get_or, slice_get_within}
 use Rattle.lc_node.proofs.FreshFits.{areas_count}
-use Rattle.lc_node.proofs.Taking.{behind_is, front_is, placed_more}
+use Rattle.lc_record.proofs.ListLemmas.{slice_get_some}
+use Rattle.lc_node.proofs.EachPlace.{each_more}
+use Rattle.lc_node.proofs.Taking.{behind_is, front_is}
 use Rattle.lc_node.proofs.areas.Areas.new.Goals as goal
 
 pub remove-requires : goal.remove-requires
@@ -35,9 +37,9 @@ loop-preserved g c =
           let next : c.loop.counter + (1 + k) ≡ (c.loop.counter + 1) + k = omega arith in
           ap (λ (n : ℕ). slice_get r.areas (r.geometry.nodes + n)) (sym next)
           ∙ inv.behind (1 + k) area (ap (slice_get logs) (sym back) ∙ sym (behind_is logs r.geometry.nodes k) ∙ ap (λ (l : List g.row.D.Denot). slice_get l (r.geometry.nodes + k)) (sym left) ∙ got));
-      pages = placed_more (λ (k : ℕ) (area : g.row.D.Denot). slice_get r.areas (r.geometry.nodes + k) ≡ Some area) c.push_reserved.new.self.items c.loop.pages.items c.remove.result c.loop.counter
+      pages = each_more (λ (k : ℕ) (area : Option g.row.D.Denot). area ≡ slice_get r.areas (r.geometry.nodes + k)) c.push_reserved.new.self.items c.loop.pages.items (Some c.remove.result) c.loop.counter
           c.push_reserved.ensures.items (omega (arith, inv.done, c.loop.pages.ok.0)) inv.pages
-          (ap (λ (n : ℕ). slice_get r.areas (r.geometry.nodes + n)) (sym here) ∙ inv.behind 0 c.remove.result taken);
+          (sym (ap (λ (n : ℕ). slice_get r.areas (r.geometry.nodes + n)) (sym here) ∙ inv.behind 0 c.remove.result taken));
     }
 
 pub returns-clause-log_count : goal.returns-clause-log_count
@@ -58,3 +60,10 @@ returns-clause-logs g c = λ node area got.
       areas_count g.D.Area c.args.recovered c.requires.lengths,
     ) in
     inv.logs node area within got
+
+pub returns-clause-pages : goal.returns-clause-pages
+returns-clause-pages g c = λ place within.
+    (let inv = c.loop.invariant in
+    let segments = ap (λ h. h.segments) c.geometry-geometry.ensures in
+    let there = slice_get_some c.loop.pages.items place (omega (arith, within, segments, c.loop-test.false, c.loop.auto.counter-end, inv.done, c.loop.pages.ok.0)) in
+    there.1 ∙ ap (λ (o : Option g.row.D.Denot). Some o) (inv.pages place there.0 there.1))

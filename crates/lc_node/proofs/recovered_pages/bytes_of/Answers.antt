@@ -3,7 +3,7 @@ use Rattle.std.specs.List.{flat_map}
 use Rattle.lc_record.specs.Marks.{counting}
 use Rattle.lc_recover.specs.Recovered.{page_of}
 use Rattle.lc_node.proofs.FreshPages.{below_more, bytes_long, bytes_more}
-use Rattle.lc_node.proofs.fresh.bytes_of.Goals as goal
+use Rattle.lc_node.proofs.recovered_pages.bytes_of.Goals as goal
 
 pub loop-page-init : goal.loop-page-init
 loop-page-init g c = record { bytes = c.in_ok-bytes.ensures.items; long = λ page less. absurd (omega (arith, less)) }

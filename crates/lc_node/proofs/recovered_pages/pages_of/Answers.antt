@@ -4,7 +4,7 @@ use Rattle.lc_page.specs.declared.page_text.PageText.{PageText}
 use Rattle.lc_recover.specs.Recovered.{page_of, sequence_of}
 use Rattle.lc_node.specs.Fresh.{segment_texts}
 use Rattle.lc_node.proofs.FreshPages.{below_more, items_more}
-use Rattle.lc_node.proofs.fresh.pages_of.Goals as goal
+use Rattle.lc_node.proofs.recovered_pages.pages_of.Goals as goal
 
 pub loop-page-init : goal.loop-page-init
 loop-page-init g c = record { texts = c.in_ok-texts.ensures.items; within = λ page less. absurd (omega (arith, less)) }

@@ -1,7 +1,7 @@
 use Rattle.std.proofs.Common.{◌≡◌, ℕ, ◌<◌, ◌≤◌, map}
 use Rattle.lc_record.specs.Marks.{counting}
 use Rattle.lc_recover.specs.Recovered.{page_of, sequence_of}
-use Rattle.lc_node.proofs.fresh.pages_of.Given as goal
+use Rattle.lc_node.proofs.recovered_pages.pages_of.Given as goal
 
 abbrev pub invariant-loop-page : goal.invariant-loop-page
 invariant-loop-page g l = record {
