@@ -56,6 +56,7 @@ rows='
 60 lengths python3 tests/lengths.py
 60 statements python3 tests/statements.py
 60 dead_names python3 tests/dead_names.py
+60 layers python3 tests/layers.py
 60 edits tests/edits.sh --fits
 '
 
