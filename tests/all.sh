@@ -48,6 +48,7 @@ rows='
 300 measures tests/measures.sh $LC_C
 300 checks tests/checks.sh $LCRVM
 300 guide tests/guide.sh $LCRVM $LC_C
+300 outsiders tests/outsiders.sh
 60 words tests/words.sh $LCRVM
 60 runs tests/runs.sh $LCRVM
 60 examples tests/examples.sh $LCRVM
