@@ -35,7 +35,7 @@ MAY_NAME = {
 }
 
 # The types whose fields are their crate's own.
-SEALED = {"TicketLock", "Loan", "SegSide", "LogSide", "Ended", "Held", "Node", "Cluster"}
+SEALED = {"TicketLock", "Loan", "SegSide", "LogSide", "Ended", "Held", "Node", "PeerNode", "Cluster"}
 SEALED |= {"PeerEnd", "PeerInbox", "SendEnds", "RecvEnds"}
 
 # What stays public though no other crate names it, as 'CRATE NAME' or 'CRATE TYPE::NAME', and why.
