@@ -48,6 +48,7 @@ rows='
 300 measures tests/measures.sh $LC_C
 300 checks tests/checks.sh $LCRVM
 300 guide tests/guide.sh $LCRVM $LC_C
+300 outsiders tests/outsiders.sh
 60 words tests/words.sh $LCRVM
 60 runs tests/runs.sh $LCRVM
 60 examples tests/examples.sh $LCRVM
@@ -56,6 +57,7 @@ rows='
 60 lengths python3 tests/lengths.py
 60 statements python3 tests/statements.py
 60 dead_names python3 tests/dead_names.py
+60 layers python3 tests/layers.py
 60 edits tests/edits.sh --fits
 '
 

@@ -18,4 +18,3 @@ pub use keyed::Keyed;
 pub use laws::{held_value_is_out, holders_are_one};
 pub use loan::Loan;
 pub use ticket_lock::TicketLock;
-pub use turn::{LockView, TicketQueue, TicketState};

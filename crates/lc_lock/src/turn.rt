@@ -5,7 +5,7 @@ use std::alloc::Global;
 
 /// Where a seat stands. Its ticket is the number of those drawn before, without an end; the lock's word has the low 32
 /// bits. No value of it is made.
-pub enum TicketState {
+pub(crate) enum TicketState {
     /// It has no ticket.
     Idle,
     /// It waits with this ticket.
@@ -15,14 +15,14 @@ pub enum TicketState {
 }
 
 /// What a seat knows: the key of its lock, and where it stands. No value of it is made.
-pub struct LockView<K> {
-    pub key: K,
-    pub turn: TicketState,
+pub(crate) struct LockView<K> {
+    pub(crate) key: K,
+    pub(crate) turn: TicketState,
 }
 
 /// The first word counts the tickets that were drawn and those that were served, and the one slot has the value until
 /// the seat whose ticket is served takes it. The other words are bells, of which nothing is known.
-pub struct TicketQueue;
+pub(crate) struct TicketQueue;
 
 impl<T: Keyed<K>, K> TableRule<Option<T>, LockView<K>, K> for TicketQueue {
     ghost use Rattle.lc_lock.specs.TicketQueue.{IsQueue, first_place};

@@ -31,7 +31,7 @@ impl<D: Area + Drop> SegSide<D> {
 
     /// Holds back a part that is not known, until the numbers before it have come. Fails for want of memory alone, and
     /// then changes nothing.
-    pub fn keep(&mut self, part: Part) -> Result<(), AllocError>
+    pub(crate) fn keep(&mut self, part: Part) -> Result<(), AllocError>
         requires { is_known self.old.backlog part.seq ≡ false }
         ensures kept { OnOk result (self.new ≡ record self.old { backlog = keeping self.old.backlog part }) }
         ensures err { OnErr result (self.new ≡ self.old) }
@@ -41,7 +41,7 @@ impl<D: Area + Drop> SegSide<D> {
 
     /// Holds back the part with this number no more, if there is one. Where a `keep` has just put it there all is then
     /// as it was. It takes no memory.
-    pub fn forget(&mut self, seq: u64)
+    pub(crate) fn forget(&mut self, seq: u64)
         ensures { self.new ≡ record self.old { backlog = forgetting self.old.backlog seq } }
     {
         self.hold_back.forget(seq);

@@ -78,7 +78,7 @@ impl<D: Area + Drop> SegSide<D> {
     /// Counts a record of the segment that is closed here under this number, while the image is out. The token and what
     /// is applied have its number after it. The part is applied that these runs have of the segment, with the bytes of
     /// this image, and the pages on which it has bytes are touched. It takes no memory.
-    pub fn count(&mut self, seq: u64, runs: &[Range], image: &[u8])
+    pub(crate) fn count(&mut self, seq: u64, runs: &[Range], image: &[u8])
         requires lent { self.old.image ≡ None }
         requires room { HasRoomFor self.old.segment runs.now (applied_in self.old) }
         requires within { EndWithin (runs_of self.old.segment runs.now) (length image.now) }

@@ -24,7 +24,7 @@ pub struct HeldImages {
 
 impl HeldImages {
     /// The place of a segment's slot; the one after the last where there is none.
-    pub fn place(&self, segment: u32) -> usize
+    pub(crate) fn place(&self, segment: u32) -> usize
         ensures { result ≡ place_of self.now.slots.items segment }
     {
         for place in 0..self.slots.len() {

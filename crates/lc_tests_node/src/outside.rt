@@ -1,4 +1,8 @@
-//! What can be done by who is not the node: with what a lock lends, and with lines of one's own.
+//! What a caller that is not the node can do with public names. It locks the node's log, reads it, flushes it and tries
+//! to reset it: no record is lost. It opens lines of its own, which take copies of records. These tests run what
+//! compiles. They do not try what no caller can write: to show a log a token of its own, to count a part at a segment,
+//! to hand a node a record, or to let a log forget. The texts in tests/outsiders are such callers, and the compiler
+//! refuses each.
 use crate::expect::{equal, holds};
 use crate::stores::{in_memory, opened, two_segments};
 use lc_cluster::{PeerEnd, PeerInbox, RecvEnds, SendEnds, Spread};
