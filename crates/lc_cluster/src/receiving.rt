@@ -29,45 +29,6 @@ impl<P: Drop> RecvEnds<P> {
     {
         self.take_at(rt, place_of(self.node, from))
     }
-
-    /// The message of a peer, by its number, that is to be gone on with: the kept one, and else the next, which is
-    /// taken. It waits for no message to be sent, and takes no memory.
-    pub fn next<R: Wait>(&mut self, rt: &R, from: u16) -> Option<Message<P>>
-        requires peer { (self.old.node ≢ from) × (place_of self.old.node from < length self.old.ends.items) }
-        ensures again { IsSome (kept_at self.old.ends.items (place_of self.old.node from))
-            → (result ≡ kept_at self.old.ends.items (place_of self.old.node from))
-            × (taken_at self.new.ends.items (place_of self.old.node from)
-            ≡ taken_at self.old.ends.items (place_of self.old.node from)) }
-        ensures taken { kept_at self.old.ends.items (place_of self.old.node from) ≡ None
-            → MatchOption result (taken_at self.new.ends.items (place_of self.old.node from)
-            ≡ taken_at self.old.ends.items (place_of self.old.node from)) (λ message.
-            taken_at self.new.ends.items (place_of self.old.node from)
-            ≡ taken_at self.old.ends.items (place_of self.old.node from) ++ message ∷ []) }
-        ensures none_kept { kept_at self.new.ends.items (place_of self.old.node from) ≡ None }
-        ensures others { (other : ℕ) → other ≢ place_of self.old.node from
-            → slice_get self.new.ends.items other ≡ slice_get self.old.ends.items other }
-        ensures count { length self.new.ends.items ≡ length self.old.ends.items }
-        ensures lines { SameOrigins self.old.ends.items self.new.ends.items }
-        ensures node { self.new.node ≡ self.old.node }
-    {
-        self.next_at(rt, place_of(self.node, from))
-    }
-
-    /// Keeps a message of a peer, by its number, for the next call of `next`. It takes no memory.
-    pub fn keep(&mut self, from: u16, message: Message<P>)
-        requires peer { (self.old.node ≢ from) × (place_of self.old.node from < length self.old.ends.items) }
-        requires none { kept_at self.old.ends.items (place_of self.old.node from) ≡ None }
-        ensures kept { kept_at self.new.ends.items (place_of self.old.node from) ≡ Some message }
-        ensures taken { taken_at self.new.ends.items (place_of self.old.node from)
-            ≡ taken_at self.old.ends.items (place_of self.old.node from) }
-        ensures others { (other : ℕ) → other ≢ place_of self.old.node from
-            → slice_get self.new.ends.items other ≡ slice_get self.old.ends.items other }
-        ensures count { length self.new.ends.items ≡ length self.old.ends.items }
-        ensures lines { SameOrigins self.old.ends.items self.new.ends.items }
-        ensures node { self.new.node ≡ self.old.node }
-    {
-        self.keep_at(place_of(self.node, from), message);
-    }
 }
 
 impl<P: Drop> RecvEnds<P> {

@@ -16,7 +16,12 @@ impl<P: Drop> SendEnds<P> {
     /// Sends a peer, by its place among the peers, a token after what it was sent, or hands the token back: Full only
     /// where its line had no room at one moment of the call. It waits for no message to be taken, and takes no memory.
     /// Log-based coherency: Feeley et al., OSDI 1994; the token in the line of the records is this project's own.
-    pub fn send_token<R: Wait>(&mut self, rt: &R, peer: usize, token: P) -> Result<(), Refused<P>>
+    pub(crate) fn send_token<R: Wait>(
+        &mut self,
+        rt: &R,
+        peer: usize,
+        token: P,
+    ) -> Result<(), Refused<P>>
         requires peer { peer < length self.old.ends.items }
         ensures sent { OnOk result (sent_at self.new.ends.items peer
             ≡ sent_at self.old.ends.items peer ++ Token token ∷ []) }
@@ -38,7 +43,7 @@ impl<P: Drop> SendEnds<P> {
 impl<P: Drop> PeerEnd<P> {
     /// Sends a token after what was sent, or hands it back: Full only where the line had no room at one moment of the
     /// call. It waits for no message to be taken, and takes no memory.
-    pub fn send_token<R: Wait>(&mut self, rt: &R, token: P) -> Result<(), Refused<P>>
+    pub(crate) fn send_token<R: Wait>(&mut self, rt: &R, token: P) -> Result<(), Refused<P>>
         ensures sent { OnOk result (sent_to self.new ≡ sent_to self.old ++ Token token ∷ []) }
         ensures none { OnErr result (sent_to self.new ≡ sent_to self.old) }
         ensures back { IfErr result (λ refused. message_of refused ≡ token) }

@@ -9,14 +9,14 @@ use lc_recover::Recovered;
 /// The areas of the logs of a store, in the order of its nodes, and of the pages of its segments, each in a place from
 /// which it can be taken.
 #[derive(Drop)]
-pub struct Areas<D: Area + Drop> {
+pub(crate) struct Areas<D: Area + Drop> {
     pub(crate) logs: Vec<D>,
     pub(crate) pages: Vec<Option<D>>,
 }
 
 impl<D: Area + Drop> Areas<D> {
     /// Those of a store, in the room that is there for the places. It takes no memory.
-    pub fn new(recovered: Recovered<D>, places: Vec<Option<D>>) -> Areas<D>
+    pub(crate) fn new(recovered: Recovered<D>, places: Vec<Option<D>>) -> Areas<D>
         requires lengths { HaveLengths D.Area recovered.geometry recovered.areas }
         requires empty { places.items ≡ [] }
         requires room { recovered.geometry.segments ≤ vec_capacity places }

@@ -9,7 +9,7 @@ use lc_segments::BoxedSide;
 
 /// A segment as it comes up, and the lock that waits for it. It is never dropped: it ends in `lock_all` or in
 /// `discard_segments`.
-pub struct FreshSegment<D: Area + Drop> {
+pub(crate) struct FreshSegment<D: Area + Drop> {
     pub(crate) side: BoxedSide<D>,
     pub(crate) lock: Vacant<BoxedSide<D>, u32>,
     ghost fits: { (side.segment ≡ key_of lock.lock) × IsSome side.image },

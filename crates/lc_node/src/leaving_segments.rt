@@ -15,9 +15,9 @@ use std::sync::Wait;
 
 /// The images of all segments of a node, from segment 1 on, and of each the number up to which its records are applied.
 #[derive(Drop)]
-pub struct SegmentImages {
+pub(crate) struct SegmentImages {
     pub(crate) images: Vec<Image>,
-    pub applied: Vec<u64>,
+    pub(crate) applied: Vec<u64>,
 }
 
 impl SegmentImages {
@@ -27,7 +27,7 @@ impl SegmentImages {
     /// # Errors
     ///
     /// `Mismatch` of the node's log, where a call of an area failed. `NoMemory`.
-    pub fn take<R: Wait, D: Area + Drop>(
+    pub(crate) fn take<R: Wait, D: Area + Drop>(
         rt: &R,
         alloc: Global,
         node: u16,

@@ -56,8 +56,8 @@ pub use gate::Gate;
 pub use held::Held;
 pub use lc_log_side::{Confirmed, LogSide, starts_stay};
 pub use lc_segments::{
-    Get, NodeFault, Put, Snapshot, Travelling, Work, work_is_laid_over, works_nothing, works_range,
-    works_then, works_write,
+    Get, NodeFault, Put, Snapshot, Work, work_is_laid_over, works_nothing, works_range, works_then,
+    works_write,
 };
 pub use message::Message;
 pub use node::Node;

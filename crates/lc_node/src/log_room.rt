@@ -22,8 +22,8 @@ use std::alloc::{AllocError, Global};
 
 /// A node's stage with the first committer's seat, and its log before the area is there. It is never dropped: it ends
 /// in `fill` or in `discard`.
-pub struct LogRoom<D: Area + Drop> {
-    pub stage: Stage,
+pub(crate) struct LogRoom<D: Area + Drop> {
+    pub(crate) stage: Stage,
     pub(crate) seat: CommitSeat,
     flusher: FlushSeat,
     probe: CommitSeat,
@@ -31,7 +31,7 @@ pub struct LogRoom<D: Area + Drop> {
     stable: Vec<u64>,
     ended: Ended,
     room_turns: TicketLock<RoomTurn, ()>,
-    pub lock: Vacant<LogSide<D>, Stage>,
+    pub(crate) lock: Vacant<LogSide<D>, Stage>,
     ghost own_seat: { IsSeatOf stage seat },
     ghost own_probe: { IsSeatOf stage probe },
     ghost own_flusher: { IsFlusherOf stage flusher },
@@ -46,7 +46,7 @@ pub struct LogRoom<D: Area + Drop> {
 
 impl<D: Area + Drop> LogRoom<D> {
     /// That of a log of so many words.
-    pub fn new(alloc: Global, words: u32) -> Result<LogRoom<D>, AllocError>
+    pub(crate) fn new(alloc: Global, words: u32) -> Result<LogRoom<D>, AllocError>
         requires { (0 < words) × (words < 32768) }
         ensures room { IfOk result (λ log. log.stage.room ≡ words) }
         ensures seat { IfOk result (λ log. commit_view log.seat ≡ newcomer words) }
@@ -126,7 +126,7 @@ impl<D: Area + Drop> LogRoom<D> {
     }
 
     /// The log does not come up.
-    pub fn discard(self) {
+    pub(crate) fn discard(self) {
         let LogRoom {
             stage: _stage,
             seat: _seat,

@@ -18,16 +18,16 @@ use lc_segments::BoxedSide;
 use std::alloc::{AllocError, Global};
 
 /// All memory of a node. It is never dropped: it ends in `fill` or in `discard`.
-pub struct NodeRoom<D: Area + Drop> {
-    pub log: LogRoom<D>,
-    pub segments: Vec<SegRoom<D>>,
+pub(crate) struct NodeRoom<D: Area + Drop> {
+    pub(crate) log: LogRoom<D>,
+    pub(crate) segments: Vec<SegRoom<D>>,
     pub(crate) fresh: Vec<FreshSegment<D>>,
     pub(crate) locks: Vec<TicketLock<BoxedSide<D>, u32>>,
 }
 
 impl<D: Area + Drop> NodeRoom<D> {
     /// That of a node of a store.
-    pub fn new(alloc: Global, recovered: &Recovered<D>) -> Result<NodeRoom<D>, AllocError>
+    pub(crate) fn new(alloc: Global, recovered: &Recovered<D>) -> Result<NodeRoom<D>, AllocError>
         ensures { IfOk result (IsRoomFor recovered.now) }
     {
         let geometry = recovered.geometry();
@@ -93,7 +93,7 @@ impl<D: Area + Drop> NodeRoom<D> {
     }
 
     /// The node does not come up.
-    pub fn discard(self) {
+    pub(crate) fn discard(self) {
         let NodeRoom {
             log,
             segments,

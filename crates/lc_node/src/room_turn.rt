@@ -6,7 +6,7 @@ use lc_lock::Keyed;
 /// The turn to make room in a full log: one thread at a time has it. A lock gives it in the order of asking. This
 /// project's own.
 #[derive(Drop)]
-pub struct RoomTurn;
+pub(crate) struct RoomTurn;
 
 impl Keyed<()> for RoomTurn {
     ghost fits = { λ _ turn. turn ≡ turn };

@@ -29,7 +29,7 @@ impl<D: Area + Drop> Node<D> {
 
     /// Whether all that was reserved at the node is stable: the tail, in one load, is the end of the stable records. It
     /// takes no memory. The log is that of the node.
-    pub fn is_flushed(&self, log: &mut LogSide<D>) -> bool
+    pub(crate) fn is_flushed(&self, log: &mut LogSide<D>) -> bool
         requires own { IsFlusherOf self.now.stage log.old.flusher × IsSeatOf self.now.stage log.old.probe }
         ensures own { IsFlusherOf self.now.stage log.new.flusher × IsSeatOf self.now.stage log.new.probe }
         ensures flushed { IsTrue result

@@ -18,15 +18,15 @@ use std::alloc::{AllocError, Global};
 
 /// What a segment needs of memory at a node, with what the recovery has made of it: the segment as it is where its
 /// token is not, its token, and the lock that waits for it. It is never dropped: it ends in `fill_all` or in `discard`.
-pub struct SegRoom<D: Area + Drop> {
+pub(crate) struct SegRoom<D: Area + Drop> {
     pub(crate) side: BoxedSide<D>,
     pub(crate) token: Token,
-    pub lock: Vacant<BoxedSide<D>, u32>,
+    pub(crate) lock: Vacant<BoxedSide<D>, u32>,
 }
 
 impl<D: Area + Drop> SegRoom<D> {
     /// That of a segment, from 1.
-    pub fn new(
+    pub(crate) fn new(
         alloc: Global,
         segment: u32,
         recovered: &Recovered<D>,
@@ -66,7 +66,7 @@ impl<D: Area + Drop> SegRoom<D> {
     }
 
     /// The segment does not come up.
-    pub fn discard(self) {
+    pub(crate) fn discard(self) {
         let SegRoom {
             side: _side,
             token: _token,

@@ -5,16 +5,16 @@ ghost use Rattle.lc_node.specs.Shares.{has_token};
 /// The share of a node in the tokens of a store: those of the segments whose numbers are the node's modulo the number
 /// of nodes.
 #[derive(Clone, Copy)]
-pub struct Share {
+pub(crate) struct Share {
     pub(crate) number: u32,
-    pub nodes: u32,
+    pub(crate) nodes: u32,
     ghost one_of: { number < nodes },
     ghost few: { nodes ≤ 8 },
 }
 
 impl Share {
     /// That of a node, from 0, of so many.
-    pub fn new(number: u32, nodes: u32) -> Share
+    pub(crate) fn new(number: u32, nodes: u32) -> Share
         requires one_of { number < nodes }
         requires few { nodes ≤ 8 }
         ensures number { result.number ≡ number }
@@ -24,14 +24,14 @@ impl Share {
     }
 
     /// Whether the token of a segment stands at the node.
-    pub fn has(self, segment: u32) -> bool
+    pub(crate) fn has(self, segment: u32) -> bool
         ensures { result ≡ has_token self.number self.nodes segment }
     {
         segment % self.nodes == self.number
     }
 
     /// Takes what stands at the place of a segment's area, where the node has the segment's token.
-    pub fn take<D>(self, segment: u32, place: &mut Option<D>) -> Option<D>
+    pub(crate) fn take<D>(self, segment: u32, place: &mut Option<D>) -> Option<D>
         ensures taken { result ≡ (if has_token self.number self.nodes segment then place.old else None) }
         ensures left { place.new ≡ (if has_token self.number self.nodes segment then None else place.old) }
     {

@@ -15,15 +15,15 @@ use std::alloc::{AllocError, Global};
 
 /// The memory of some nodes of a store, with the places for the areas of its segments. It is never dropped: it ends in
 /// `fill`.
-pub struct StoreRoom<D: Area + Drop> {
-    pub nodes: Vec<NodeRoom<D>>,
+pub(crate) struct StoreRoom<D: Area + Drop> {
+    pub(crate) nodes: Vec<NodeRoom<D>>,
     pub(crate) places: Vec<Option<D>>,
     pub(crate) fresh: Vec<FreshNode<D>>,
 }
 
 impl<D: Area + Drop> StoreRoom<D> {
     /// That of so many nodes.
-    pub fn new(
+    pub(crate) fn new(
         alloc: Global,
         recovered: &Recovered<D>,
         nodes: u16,

@@ -8,7 +8,7 @@ use std::alloc::{AllocError, Global};
 /// A lock without its value, which takes no memory when the value comes. It is never dropped: it ends in `fill` or in
 /// `discard`.
 pub struct Vacant<T: Keyed<K>, K> {
-    pub lock: TicketLock<T, K>,
+    pub(crate) lock: TicketLock<T, K>,
     loan: Loan<T, K>,
     ghost one_lock: { IsLoanOf lock loan },
 }
