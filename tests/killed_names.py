@@ -183,9 +183,8 @@ class Server:
         if not self._connections:
             self._process.kill()
             return
-        with open(f"/proc/{self._process.pid}/task/{self._process.pid}/children") as children:
-            for child in children.read().split():
-                os.kill(int(child), signal.SIGKILL)
+        for child in children(self._process):
+            os.kill(child, signal.SIGKILL)
 
     def end_input(self) -> None:
         if self._process.stdin is not None:
@@ -203,6 +202,18 @@ class Server:
 
     def terminate(self) -> None:
         self._process.terminate()
+
+
+def children(process: subprocess.Popen) -> List[int]:
+    """The processes that a process has started. It may still have to start the first."""
+    limit = time.monotonic() + PATIENCE
+    while time.monotonic() < limit and process.poll() is None:
+        with open(f"/proc/{process.pid}/task/{process.pid}/children") as listed:
+            started = [int(child) for child in listed.read().split()]
+        if started:
+            return started
+        time.sleep(0.001)
+    fail("no server was started")
 
 
 def connect(path: str, process: subprocess.Popen) -> socket.socket:
