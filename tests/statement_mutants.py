@@ -22,7 +22,7 @@ ROWS = [
     ("a variant of Event", "lc_model/src/event.rt", r"^    Trim.*\n", ""),
     ("a field of a type", "lc_record/src/geometry.rt", r"^    pub words: u32,\n", ""),
     ("what a flush of a node leaves", "lc_node/specs/Flushes.antt", r"^    pub flushes : .*\n", ""),
-    ("that a record is of just the runs", "lc_node/specs/Commits.antt", r"  pub of_runs : IsOfRuns set whole\n  pub closes", "  pub closes"),
+    ("that a record is of just the runs", "lc_node/specs/Commits.antt", r"    pub of_runs : IsOfRuns set whole\n    pub closes", "    pub closes"),
     ("what gathered bytes make", "lc_changes/specs/Gathering.antt", r"^puts_at segment \[\] values bytes = bytes\n", "puts_at segment [] values bytes = values\n"),
     ("that a call of C steps", "lc_c/specs/Calls.antt", r"^  pub steps : .*\n", ""),
     ("what a script tells over files", "lc_tool/specs/Tells.antt", r"TellsScript g script text status = TellsStop text status ⊎", "TellsScript g script text status = Unit {0} ⊎"),
