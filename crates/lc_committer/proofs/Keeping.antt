@@ -33,27 +33,27 @@ receiving v w receipt got = more v w (latest v.mine) (ap (λ (u : StageView). u.
 
 -- A commit with room made leaves the receipts as they are
 
-module _ {D : Type 0} (node : Node D) (tells : Tells) (tries : ℕ) (v w : StageView) where
-  on : (olds news : List (HeldSide D)) (r : Result Bool NodeFault) → CommitsOn node tells tries olds news v w r → w.receipts ≡ v.receipts
+module _ {D : Type 0} (a : Ghosts D) (node : Node D) (tells : Tells) (tries : ℕ) (v w : StageView) where
+  on : (olds news : List (HeldSide D)) (r : Result Bool NodeFault) → CommitsOn a node tells tries olds news v w r → w.receipts ≡ v.receipts
   on olds news (Ok true) t = ap (λ (u : StageView). u.receipts) (t.committed refl).closes.is
   on olds news (Ok false) t = ap (λ (u : StageView). u.receipts) (t.nothing refl).0
   on olds news (Err fault) t = ap (λ (u : StageView). u.receipts) t.refused.0
 
-  first : (count : ℕ) (olds news : List (HeldSide D)) (r : Result Bool NodeFault) → CommitsFirst node tells tries count olds news v w r → w.receipts ≡ v.receipts
+  first : (count : ℕ) (olds news : List (HeldSide D)) (r : Result Bool NodeFault) → CommitsFirst a node tells tries count olds news v w r → w.receipts ≡ v.receipts
   first count olds news r t = on (take count olds) (take count news) r t.0
 
 module _ {D W : Type 0} (a : Ghosts D) (node : Node D) (ran : W → W → Tells) (tries : ℕ) where
-  among : (segments : List ℕ) (x y : W) (v w : StageView) (r : Result Bool NodeFault) → CommitsAmong node ran tries segments x y v w r → w.receipts ≡ v.receipts
+  among : (segments : List ℕ) (x y : W) (v w : StageView) (r : Result Bool NodeFault) → CommitsAmong a node ran tries segments x y v w r → w.receipts ≡ v.receipts
   among segments x y v w r (inl not) = ap (λ (u : StageView). u.receipts) not.unseen
-  among segments x y v w r (inr t) = on node (ran x y) tries v w t.olds t.news r t.commits
+  among segments x y v w r (inr t) = on a node (ran x y) tries v w t.olds t.news r t.commits
 
   emptied : (count : ℕ) (olds : List (HeldSide D)) (x y : W) (v w : StageView) (r : Result Bool NodeFault) → EmptiesAndCommits a node ran tries count olds x y v w r → w.receipts ≡ v.receipts
   emptied count olds x y v w r (inl not) = ap (λ (u : StageView). u.receipts) not.5
-  emptied count olds x y v w r (inr t) = first node (ran x y) tries v w count t.1 t.2 r t.4
+  emptied count olds x y v w r (inr t) = first a node (ran x y) tries v w count t.1 t.2 r t.4
 
   tried : (count : ℕ) (olds : List (HeldSide D)) (x y : W) (v w : StageView) (r : Result Bool NodeFault) → CommitsOrEmpties a node ran tries count olds x y v w r → w.receipts ≡ v.receipts
-  tried count olds x y v w r (inl once) = first node (ran x y) tries v w count olds once.0 r once.1
-  tried count olds x y v w r (inr t) = emptied count t.3 t.0 y t.1 w r t.6 ∙ first node (ran x t.0) tries v t.1 count olds t.3 t.2 t.4
+  tried count olds x y v w r (inl once) = first a node (ran x y) tries v w count olds once.0 r once.1
+  tried count olds x y v w r (inr t) = emptied count t.3 t.0 y t.1 w r t.6 ∙ first a node (ran x t.0) tries v t.1 count olds t.3 t.2 t.4
 
   alone : (segments : List ℕ) (x y : W) (v w : StageView) (r : Result Bool NodeFault) → CommitsAlone a node ran tries segments x y v w r → w.receipts ≡ v.receipts
   alone segments x y v w r (inl not) = ap (λ (u : StageView). u.receipts) not.unseen

@@ -2,8 +2,9 @@
 ghost use Rattle.std.specs.Prelude.{◌≡◌, ◌↔◌, ◌+◌, ◌≤◌, ◌++◌, true, length, vec_len, vec_capacity, IfOk, IfErr, Err};
 ghost use Rattle.lc_stage.specs.Seats.{IsFlusherOf};
 ghost use Rattle.lc_log_side.specs.Flushes.{Flushes, IsUnflushed};
+ghost use Rattle.lc_log_side.specs.Halting.{HasFaults};
 ghost use Rattle.lc_log_side.specs.Published.{Publishes};
-ghost use Rattle.lc_segments.specs.declared.node_fault.NodeFault.TheVariants.{Halted};
+ghost use Rattle.lc_segments.specs.declared.node_fault.NodeFault.TheVariants.{DeviceFault, Halted};
 
 use crate::log_side::LogSide;
 use crate::log_state::LogState;
@@ -41,6 +42,7 @@ impl<D: Area + Drop> LogSide<D> {
         ensures published { IfOk result (λ count. Publishes self.old count self.new) }
         ensures halted { (result ≡ Err Halted) ↔ (self.old.is_halted ≡ true) }
         ensures refused { IfErr result (λ fault. IsUnflushed D.Area self.old fault self.new) }
+        ensures cause { result ≡ Err DeviceFault → HasFaults D.Area }
     {
         let log = match mem::replace(&mut self.log, LogState::Taken) {
             LogState::Idle(log) => log,

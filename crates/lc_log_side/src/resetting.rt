@@ -5,10 +5,11 @@ ghost use Rattle.lc_stage.specs.Seats.{IsFlusherOf, IsSeatOf};
 ghost use Rattle.lc_trunc.specs.KnownClean.{known as known_of};
 ghost use Rattle.lc_trunc.specs.Reset.{IsAbove};
 ghost use Rattle.lc_log_side.specs.Ended.{HasRoom};
+ghost use Rattle.lc_log_side.specs.Halting.{HasFaults};
 ghost use Rattle.lc_log_side.specs.Published.{published};
 ghost use Rattle.lc_log_side.specs.Resets.{Begins, CanReset, Empties, FailsToBegin, IsReady, IsSealed, IsSpent};
 ghost use Rattle.lc_log_side.specs.Resets.{IsUnemptied, IsUnfit, IsUnsealed, Seals};
-ghost use Rattle.lc_segments.specs.declared.node_fault.NodeFault.TheVariants.{RoundsSpent, Unclean};
+ghost use Rattle.lc_segments.specs.declared.node_fault.NodeFault.TheVariants.{DeviceFault, RoundsSpent, Unclean};
 
 use crate::log_side::LogSide;
 use crate::log_state::LogState;
@@ -42,6 +43,7 @@ impl<D: Area + Drop> LogSide<D> {
         ensures published { published self.new ≡ published self.old }
         ensures emptied { IfOk result (λ round. Empties self.old round self.new) }
         ensures refused { IfErr result (λ fault. IsUnemptied self.old fault self.new) }
+        ensures cause { result ≡ Err DeviceFault → HasFaults D.Area }
         ensures spent { (result ≡ Err RoundsSpent) ↔ (IsReady self.old × IsSpent self.old) }
         ensures unclean { (segment seq : ℕ) → (result ≡ Err (Unclean segment seq))
             ↔ (IsReady self.old × ¬ IsSpent self.old
@@ -110,6 +112,7 @@ impl<D: Area + Drop> LogSide<D> {
         ensures published { published self.new ≡ published self.old }
         ensures begins { IfOk result (λ round. Begins self.old round self.new) }
         ensures fails { IfErr result (λ fault. FailsToBegin self.old fault self.new) }
+        ensures cause { IfErr result (λ _. HasFaults D.Area) }
     {
         let LogState::Idle(log) = mem::replace(&mut self.log, LogState::Taken) else {
             unreachable!();

@@ -1,11 +1,13 @@
 //! The receipt of a seat's last record, at once or after a flush.
-ghost use Rattle.std.specs.Prelude.{◌≡◌, IfOk, IfErr, IfSome, IfNone, MatchOption};
+ghost use Rattle.std.specs.Prelude.{◌≡◌, Err, IfOk, IfErr, IfSome, IfNone, MatchOption};
 ghost use Rattle.lc_stage.specs.Receipts.{IsReceiptOf};
 ghost use Rattle.lc_stage.specs.Staging.{latest, learns_durable, with_receipt, HasReached};
 ghost use Rattle.lc_stage.specs.Seats.{commit_view, flush_view, IsSeatOf, IsFlusherOf, IsIdle};
+ghost use Rattle.lc_log_side.specs.Halting.{HasFaults};
 ghost use Rattle.lc_log_side.specs.LogView.{IsSameLog};
 ghost use Rattle.lc_log_side.specs.Receipts.{IsOfDevice, Learns, Receives};
 ghost use Rattle.lc_log_side.specs.Settling.{Settles};
+ghost use Rattle.lc_segments.specs.declared.node_fault.NodeFault.TheVariants.{DeviceFault};
 
 use crate::log_side::LogSide;
 use lc_disk::Area;
@@ -49,6 +51,7 @@ impl<D: Area + Drop> LogSide<D> {
             Receives (commit_view seat) receipt (commit_view result.0))) }
         ensures refused { IfErr result.1 (λ fault. IsOfDevice fault
             × Learns (commit_view seat) (commit_view result.0)) }
+        ensures cause { result.1 ≡ Err DeviceFault → HasFaults D.Area }
     {
         let (seat, found) = self.durable(stage, seat);
         if found.is_some() {

@@ -1,12 +1,14 @@
 //! The truncation of a node's log.
-ghost use Rattle.std.specs.Prelude.{◌≡◌, [], All, IfErr, IfOk};
+ghost use Rattle.std.specs.Prelude.{◌≡◌, [], All, Err, IfErr, IfOk};
 ghost use Rattle.std.specs.VecDeque.{deque_capacity};
 ghost use Rattle.lc_stage.specs.Seats.{IsFlusherOf, IsSeatOf};
 ghost use Rattle.lc_segments.specs.Each.{Each};
 ghost use Rattle.lc_log_side.specs.Ended.{HasRoom};
+ghost use Rattle.lc_log_side.specs.Halting.{HasFaults};
 ghost use Rattle.lc_log_side.specs.Truncates.{HasPagesIn, IsSameHeld};
 ghost use Rattle.lc_log_side.specs.Truncates.{IsUntruncated, IsUntruncatedInRoom};
 ghost use Rattle.lc_log_side.specs.Truncates.{Truncates, TruncatesInRoom};
+ghost use Rattle.lc_segments.specs.declared.node_fault.NodeFault.TheVariants.{DeviceFault};
 
 use crate::cleaning::write_all;
 use crate::log_side::LogSide;
@@ -34,6 +36,7 @@ impl<D: Area + Drop> LogSide<D> {
             TruncatesInRoom D.Area stage.now.room self.old sides.old.items round self.new sides.new.items) }
         ensures refused { IfErr result (λ fault.
             IsUntruncatedInRoom D.Area stage.now.room self.old sides.old.items fault self.new sides.new.items) }
+        ensures cause { result ≡ Err DeviceFault → HasFaults D.Area }
     {
         self.may_truncate()?;
         let Ok(()) = self.make_room(stage) else {
@@ -59,6 +62,7 @@ impl<D: Area + Drop> LogSide<D> {
             Truncates D.Area stage.now.room self.old sides.old.items round self.new sides.new.items) }
         ensures refused { IfErr result (λ fault.
             IsUntruncated D.Area stage.now.room self.old sides.old.items fault self.new sides.new.items) }
+        ensures cause { result ≡ Err DeviceFault → HasFaults D.Area }
     {
         self.flush(stage)?;
         if let Err(fault) = write_all(sides, writes) {

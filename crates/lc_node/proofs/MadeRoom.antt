@@ -3,6 +3,7 @@ use Rattle.std.proofs.Common.{◌≡◌, ℕ, zero, suc, ◌+◌, ◌<◌, List,
 use Rattle.std.specs.Prelude.{Bool, Result}
 use Rattle.std.proofs.lemmas.List.{length-map, take-map}
 use Rattle.std.proofs.Math.Seq.{take-append_seam, drop-append_seam}
+use Rattle.lc_disk.specs.declared.area.Area.{Ghosts}
 use Rattle.lc_record.specs.Record.{Chain}
 use Rattle.lc_stage.specs.declared.stage_view.StageView.{StageView}
 use Rattle.lc_node.specs.Commits.{CommitsOn, segments_in}
@@ -32,13 +33,13 @@ module _ {D : Type 0} where
   long_as xs ys same = sym (length-map xs (λ (h : HeldSide D). h.side.segment)) ∙ (ap (λ (l : List ℕ). length l) same ∙ length-map ys (λ (h : HeldSide D). h.side.segment))
 
   -- a commit on the front is one on the first of them
-  pub commits_first : (node : Node D) (tells : Tells) (tries k : ℕ) (olds asked others news written : List (HeldSide D)) (v w : StageView) (r : Result Bool NodeFault)
+  pub commits_first : (a : Ghosts D) (node : Node D) (tells : Tells) (tries k : ℕ) (olds asked others news written : List (HeldSide D)) (v w : StageView) (r : Result Bool NodeFault)
       → olds ≡ asked ++ others → length asked ≡ k → written ≡ news ++ others → length news ≡ length asked
-      → CommitsOn node tells tries asked news v w r → CommitsFirst node tells tries k olds written v w r
-  commits_first node tells tries k olds asked others news written v w r whole long back same on =
+      → CommitsOn a node tells tries asked news v w r → CommitsFirst a node tells tries k olds written v w r
+  commits_first a node tells tries k olds asked others news written v w r whole long back same on =
       let front : take k olds ≡ asked = ap (take k) whole ∙ written_over asked others k long in
       let front_new : take k written ≡ news = ap (take k) back ∙ written_over news others k (same ∙ long) in (
-        subst (λ l. CommitsOn node tells tries l (take k written) v w r) (sym front) (subst (λ l. CommitsOn node tells tries asked l v w r) (sym front_new) on),
+        subst (λ l. CommitsOn a node tells tries l (take k written) v w r) (sym front) (subst (λ l. CommitsOn a node tells tries asked l v w r) (sym front_new) on),
         ap (drop k) back ∙ (dropped news others k (same ∙ long) ∙ sym (ap (drop k) whole ∙ dropped asked others k long)),
       )
 

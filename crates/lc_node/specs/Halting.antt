@@ -1,17 +1,15 @@
 -- Of a node: what keeps a node from serving on.
-use Rattle.std.specs.Prelude.{◌≡◌, ℕ, ◌<◌, true}
-use Rattle.lc_log_side.specs.LogView.{LogView}
+use Rattle.std.specs.Prelude.{◌≡◌, ℕ, ◌<◌}
+use Rattle.lc_disk.specs.declared.area.Area.{Ghosts}
+use Rattle.lc_log_side.specs.Halting.{HasFaults}
 use Rattle.lc_segments.specs.declared.node_fault.NodeFault.{NodeFault}
 use Rattle.lc_segments.specs.declared.node_fault.NodeFault.TheVariants.{Halted}
 
--- some log on such a device is halted
-abbrev pub HasHalted : Type 0 → Type 0
-HasHalted D = (log : LogView D) × (log.is_halted ≡ true)
+module _ {D : Type 0} (a : Ghosts D) where
+  -- the word is 0 until an area of a device has failed
+  abbrev pub IsHalting : ℕ → Type 0
+  IsHalting word = 0 < word → HasFaults a
 
--- the word is 0 until one is
-abbrev pub IsHalting : Type 0 → ℕ → Type 0
-IsHalting D word = 0 < word → HasHalted D
-
--- a commit is refused, since one is
-abbrev pub IsHalted : Type 0 → NodeFault → Type 0
-IsHalted D fault = (fault ≡ Halted) × HasHalted D
+  -- a commit is refused, since one has
+  abbrev pub IsHalted : NodeFault → Type 0
+  IsHalted fault = (fault ≡ Halted) × HasFaults a

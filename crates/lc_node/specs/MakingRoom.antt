@@ -28,10 +28,11 @@ module _ {D : Type 0} where
     pub asked : IsSetOf segments (segments_in (take count sides))
     pub every : (s : ℕ) → HasSegment node s → IsTrue (is_member s (segments_in sides))
 
+module _ {D : Type 0} (a : Ghosts D) where
   -- a commit is done on the first so many of these, and the others stay
   abbrev pub CommitsFirst : Node D → Tells → ℕ → ℕ → List (HeldSide D) → List (HeldSide D) → StageView → StageView → Result Bool NodeFault → Type 0
   CommitsFirst node tells tries count olds news v w result =
-      CommitsOn node tells tries (take count olds) (take count news) v w result × (drop count news ≡ drop count olds)
+      CommitsOn a node tells tries (take count olds) (take count news) v w result × (drop count news ≡ drop count olds)
 
 -- What a work makes of itself in a run, and what it tells of that, is `ran`
 
@@ -40,13 +41,13 @@ module _ {D W : Type 0} (a : Ghosts D) (node : Node D) (ran : W → W → Tells)
   abbrev pub EmptiesAndCommits : ℕ → List (HeldSide D) → W → W → StageView → StageView → Result Bool NodeFault → Type 0
   EmptiesAndCommits count olds x y v w result =
       ((fault : NodeFault) × (news : List (HeldSide D)) × IsUntruncatedHeld a node olds fault news × (result ≡ Err fault) × (y ≡ x) × (w ≡ v))
-      ⊎ ((round : ℕ) × (emptied : List (HeldSide D)) × (news : List (HeldSide D)) × TruncatesHeld a node olds round emptied × CommitsFirst node (ran x y) tries count emptied news v w result)
+      ⊎ ((round : ℕ) × (emptied : List (HeldSide D)) × (news : List (HeldSide D)) × TruncatesHeld a node olds round emptied × CommitsFirst a node (ran x y) tries count emptied news v w result)
 
   -- with all held it is tried on the first of them; where the log has no room, it is emptied, and it is tried again
   abbrev pub CommitsOrEmpties : ℕ → List (HeldSide D) → W → W → StageView → StageView → Result Bool NodeFault → Type 0
   CommitsOrEmpties count olds x y v w result =
-      ((news : List (HeldSide D)) × CommitsFirst node (ran x y) tries count olds news v w result × ¬ IsFull result)
-      ⊎ ((z : W) × (u : StageView) × (full : Result Bool NodeFault) × (between : List (HeldSide D)) × CommitsFirst node (ran x z) tries count olds between v u full × IsFull full
+      ((news : List (HeldSide D)) × CommitsFirst a node (ran x y) tries count olds news v w result × ¬ IsFull result)
+      ⊎ ((z : W) × (u : StageView) × (full : Result Bool NodeFault) × (between : List (HeldSide D)) × CommitsFirst a node (ran x z) tries count olds between v u full × IsFull full
       × EmptiesAndCommits count between z y u w result)
 
   -- all segments are held for it, or no lock was got
@@ -58,8 +59,8 @@ module _ {D W : Type 0} (a : Ghosts D) (node : Node D) (ran : W → W → Tells)
   -- it is tried beside others; where the log has no room, with all segments held
   abbrev pub CommitsInRoom : List ℕ → W → W → StageView → StageView → Result Bool NodeFault → Type 0
   CommitsInRoom segments x y v w result =
-      (CommitsAmong node ran tries segments x y v w result × ¬ IsFull result)
-      ⊎ ((z : W) × (u : StageView) × (full : Result Bool NodeFault) × CommitsAmong node ran tries segments x z v u full × IsFull full × CommitsAlone segments z y u w result)
+      (CommitsAmong a node ran tries segments x y v w result × ¬ IsFull result)
+      ⊎ ((z : W) × (u : StageView) × (full : Result Bool NodeFault) × CommitsAmong a node ran tries segments x z v u full × IsFull full × CommitsAlone segments z y u w result)
 
   -- a seat of the node committed a work on these segments in this mode, with room made in the log
   pub record TransactsInRoom (segments : List ℕ) (mode : Mode) (x y : W) (v w : StageView) (result : Result Commit NodeFault) : Type 0 where

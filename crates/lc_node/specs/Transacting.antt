@@ -1,5 +1,6 @@
 -- A whole transaction on a running node.
 use Rattle.std.specs.Prelude.{◌≡◌, ℕ, List, Bool, true, false, Result, Ok, Err, MatchResult}
+use Rattle.lc_disk.specs.declared.area.Area.{Ghosts}
 use Rattle.lc_stage.specs.declared.receipt.Receipt.{Receipt}
 use Rattle.lc_stage.specs.declared.stage_view.StageView.{StageView}
 use Rattle.lc_segments.specs.Ran.{Tells}
@@ -24,8 +25,8 @@ EndsIn mode u (Ok false) w result = (result ≡ Ok Empty) × (w ≡ u)
 EndsIn mode u (Err fault) w result = (result ≡ Err fault) × (w ≡ u)
 
 -- a seat of the node committed a work on these segments in this mode
-pub record Transacts {D W : Type 0} (node : Node D) (ran : W → W → Tells) (tries : ℕ) (segments : List ℕ) (mode : Mode) (x y : W) (v w : StageView) (result : Result Commit NodeFault) : Type 0 where
+pub record Transacts {D W : Type 0} (a : Ghosts D) (node : Node D) (ran : W → W → Tells) (tries : ℕ) (segments : List ℕ) (mode : Mode) (x y : W) (v w : StageView) (result : Result Commit NodeFault) : Type 0 where
   pub between : StageView
   pub done : Result Bool NodeFault
-  pub commits : CommitsAmong node ran tries segments x y v between done
+  pub commits : CommitsAmong a node ran tries segments x y v between done
   pub ends : EndsIn mode between done w result

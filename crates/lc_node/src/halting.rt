@@ -3,12 +3,12 @@ ghost use Rattle.std.specs.Prelude.{◌≡◌, ◌⊎◌, ◌↔◌, true, Err, 
 ghost use Rattle.lc_stage.specs.Seats.{IsFlusherOf, IsSeatOf};
 ghost use Rattle.lc_log_side.specs.Ended.{LacksRoom};
 ghost use Rattle.lc_log_side.specs.Flushes.{Flushes, IsUnflushed};
-ghost use Rattle.lc_node.specs.Halting.{HasHalted, IsHalting};
+ghost use Rattle.lc_log_side.specs.Halting.{HasFaults};
 ghost use Rattle.lc_log_side.specs.LogView.{LogView};
 ghost use Rattle.lc_log_side.specs.Published.{published, Publishes};
 ghost use Rattle.lc_log_side.specs.Resets.{CanReset, Empties, IsUnemptied};
 ghost use Rattle.lc_node.specs.Resets.{IsSameInRoom};
-ghost use Rattle.lc_segments.specs.declared.node_fault.NodeFault.TheVariants.{Halted, NoMemory};
+ghost use Rattle.lc_segments.specs.declared.node_fault.NodeFault.TheVariants.{DeviceFault, Halted, NoMemory};
 
 use crate::node::Node;
 use lc_disk::Area;
@@ -18,13 +18,15 @@ use std::marker::PhantomData;
 use std::sync::atomic::Ordering::SeqCst;
 use std::sync::atomic::Rule;
 
-/// The rule of a node's word that is 0 until a call of a device fails: any other value tells that a log is halted.
+/// The rule of a node's word that is 0 until a call of a device fails: any other value tells that one has failed.
 pub struct Halting<D> {
     device: PhantomData<D>,
 }
 
-impl<D> Rule for Halting<D> {
-    ghost invariant = { IsHalting D };
+impl<D: Area> Rule for Halting<D> {
+    ghost use Rattle.lc_node.specs.Halting.{IsHalting};
+
+    ghost invariant = { IsHalting D.Area };
 }
 
 // What the word is where a call has failed.
@@ -34,14 +36,16 @@ impl<D: Area + Drop> Node<D> {
     /// Whether a call of a device has failed, of the log's or of those of the segments' pages: each commit and each
     /// flush is refused then, as `Halted`, until a recovery. One load.
     pub fn is_halted(&self) -> bool
-        ensures { IsTrue result → HasHalted D }
+        ensures { IsTrue result → HasFaults D.Area }
     {
         self.halted.load(SeqCst) != 0
     }
 
-    /// Lets all who commit know where the log is halted.
-    pub(crate) fn tell_halted(&self, log: &LogSide<D>) {
-        if log.is_halted() {
+    /// Lets all who commit know where a call of a device has failed.
+    pub(crate) fn tell_fault<T>(&self, done: &Result<T, NodeFault>)
+        requires { done.now ≡ Err DeviceFault → HasFaults D.Area }
+    {
+        if let Err(NodeFault::DeviceFault) = done {
             self.halted.store(FAILED, SeqCst);
         }
     }
@@ -63,7 +67,7 @@ impl<D: Area + Drop> Node<D> {
         ensures refused { IfErr result (λ fault. IsUnflushed D.Area log.old fault log.new) }
     {
         let flushed = log.flush(&self.stage);
-        self.tell_halted(log);
+        self.tell_fault(&flushed);
         flushed
     }
 
@@ -94,7 +98,7 @@ impl<D: Area + Drop> Node<D> {
             return Err(NodeFault::NoMemory);
         };
         let reset = log.reset(&self.stage);
-        self.tell_halted(log);
+        self.tell_fault(&reset);
         reset
     }
 }

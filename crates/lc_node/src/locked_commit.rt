@@ -35,8 +35,8 @@ impl<D: Area + Drop> Node<D> {
         requires tries { 0 < tries }
         ensures own { IsSeatOf self.now.stage seat.new }
         ensures idle { IsIdle (commit_view seat.new) }
-        ensures commits { CommitsAmong self.now W.ran tries segments.now work.old work.new (commit_view seat.old)
-            (commit_view seat.new) result }
+        ensures commits { CommitsAmong D.Area self.now W.ran tries segments.now work.old work.new
+            (commit_view seat.old) (commit_view seat.new) result }
     {
         if let [segment] = segments {
             return self.commit_one(rt, alloc, seat, *segment, work, tries, gate);
@@ -63,8 +63,8 @@ impl<D: Area + Drop> Node<D> {
         requires tries { 0 < tries }
         ensures own { IsSeatOf self.now.stage seat.new }
         ensures idle { IsIdle (commit_view seat.new) }
-        ensures commits { CommitsAmong self.now W.ran tries (segment ∷ []) work.old work.new (commit_view seat.old)
-            (commit_view seat.new) result }
+        ensures commits { CommitsAmong D.Area self.now W.ran tries (segment ∷ []) work.old work.new
+            (commit_view seat.old) (commit_view seat.new) result }
     {
         if !self.has(segment) {
             return Err(NodeFault::NotHere { segment });

@@ -181,7 +181,7 @@ impl<D: Area + Drop> Node<D> {
         ensures idle { IsIdle (commit_view seat.new) }
         ensures held { All (IsHeldOf self.now) held.new.sides.items }
         ensures segments { segments_in held.new.sides.items ≡ segments_in held.old.sides.items }
-        ensures commits { CommitsFirst self.now
+        ensures commits { CommitsFirst D.Area self.now
             (W.ran work.old work.new) tries count held.old.sides.items held.new.sides.items (commit_view seat.old)
             (commit_view seat.new) result }
     {

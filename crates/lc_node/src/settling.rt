@@ -120,7 +120,7 @@ impl<D: Area + Drop> Node<D> {
     {
         let (mut log, loan) = self.log.lock(rt);
         let (seat, settled) = log.settle(&self.stage, seat);
-        self.tell_halted(&log);
+        self.tell_fault(&settled);
         self.log.unlock(log, loan);
         (seat, settled)
     }

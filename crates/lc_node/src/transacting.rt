@@ -42,8 +42,8 @@ impl<D: Area + Drop> Node<D> {
         requires tries { 0 < tries }
         ensures own { IsSeatOf self.now.stage result.0 }
         ensures idle { IsIdle (commit_view result.0) }
-        ensures transacts { Transacts self.now W.ran tries segments.now mode work.old work.new (commit_view seat)
-            (commit_view result.0) result.1 }
+        ensures transacts { Transacts D.Area self.now W.ran tries segments.now mode work.old work.new
+            (commit_view seat) (commit_view result.0) result.1 }
         ensures received { (receipt : Given) → result.1 ≡ Ok (Flushed receipt)
             → HasReceipt (commit_view result.0) receipt }
     {

@@ -1,10 +1,10 @@
 //! The truncation of a node's log.
-ghost use Rattle.std.specs.Prelude.{◌≡◌, ◌⊎◌, [], All, IfErr, IfOk, OnOk};
+ghost use Rattle.std.specs.Prelude.{◌≡◌, ◌⊎◌, [], All, Err, IfErr, IfOk, OnOk};
 ghost use Rattle.std.specs.VecDeque.{deque_capacity};
 ghost use Rattle.lc_stage.specs.Seats.{IsFlusherOf, IsSeatOf};
 ghost use Rattle.lc_segments.specs.Each.{Each};
 ghost use Rattle.lc_node.specs.Held.{IsHeldOf, segments_of};
-ghost use Rattle.lc_log_side.specs.Halting.{IsUntruncatable};
+ghost use Rattle.lc_log_side.specs.Halting.{HasFaults, IsUntruncatable};
 ghost use Rattle.lc_log_side.specs.LogView.{LogView};
 ghost use Rattle.lc_node.specs.Logs.{IsLogOf};
 ghost use Rattle.lc_node.specs.Truncates.{HasNotTruncated, HasTruncated, IsOfTruncation};
@@ -12,7 +12,7 @@ ghost use Rattle.lc_log_side.specs.Truncates.{HasPagesIn, IsSameHeld};
 ghost use Rattle.lc_node.specs.Truncates.{IsUntruncatedHeld, MayTruncate};
 ghost use Rattle.lc_log_side.specs.Truncates.{IsUntruncatedInRoom};
 ghost use Rattle.lc_node.specs.Truncates.{TruncatesAlone, TruncatesHeld};
-ghost use Rattle.lc_segments.specs.declared.node_fault.NodeFault.TheVariants.{NoMemory};
+ghost use Rattle.lc_segments.specs.declared.node_fault.NodeFault.TheVariants.{DeviceFault, NoMemory};
 
 use crate::cleaning::most_pages;
 use crate::held::Held;
@@ -114,7 +114,7 @@ impl<D: Area + Drop> Node<D> {
             return Err(NodeFault::NoMemory);
         };
         let truncated = self.truncate_log(log, &mut held.sides, &mut writes);
-        self.tell_halted(log);
+        self.tell_fault(&truncated);
         truncated
     }
 
@@ -136,6 +136,7 @@ impl<D: Area + Drop> Node<D> {
             sides.new.items) }
         ensures refused { IfErr result (λ fault.
             IsUntruncatedInRoom D.Area self.now.stage.room log.old sides.old.items fault log.new sides.new.items) }
+        ensures cause { result ≡ Err DeviceFault → HasFaults D.Area }
     {
         let round = log.truncate(&self.stage, sides, writes)?;
         if self.is_alone {

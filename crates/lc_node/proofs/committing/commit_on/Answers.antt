@@ -62,6 +62,6 @@ pub returns-clause-why : goal.returns-clause-why
 returns-clause-why g c =
     let tells = g.W.Work.ran c.args.work.now c.commit_with-done.new.work in let seen : ℕ = (commit_view c.commit_with-done.new.seat).seen in
     let done = c.commit_with-done.result in let xs : List (HeldSide g.row.D.Denot) = c.take_scratch.new.sides in
-    subst (λ (l : List (HeldSide g.row.D.Denot)). IfErr done (λ fault. IsHalted g.row.D.Denot fault ⊎ IsUncommitted tells (IsUnbegunOn (segments_in l) l) (segments_in l) (bytes_at l) c.args.node.now.stage.room c.args.tries seen fault)) c.take_scratch.ensures
-    (each_err done (λ fault. IsHalted g.row.D.Denot fault ⊎ IsUncommitted tells (IsUnbegunOn (segments_in xs) xs) (segments_in xs) (bytes_at xs) c.args.node.now.stage.room c.args.tries seen fault)
+    subst (λ (l : List (HeldSide g.row.D.Denot)). IfErr done (λ fault. IsHalted g.D.Area fault ⊎ IsUncommitted tells (IsUnbegunOn (segments_in l) l) (segments_in l) (bytes_at l) c.args.node.now.stage.room c.args.tries seen fault)) c.take_scratch.ensures
+    (each_err done (λ fault. IsHalted g.D.Area fault ⊎ IsUncommitted tells (IsUnbegunOn (segments_in xs) xs) (segments_in xs) (bytes_at xs) c.args.node.now.stage.room c.args.tries seen fault)
     (λ f is. inr (at_err done f (λ fault. IsUncommitted tells (IsUnbegunOn (segments_in xs) xs) (segments_in xs) (bytes_at xs) c.args.node.now.stage.room c.args.tries seen fault) is c.commit_with-done.ensures.why)))

@@ -8,6 +8,6 @@ use Rattle.lc_node.proofs.held.Held.commit.Goals as goal
 
 pub returns-clause-why : goal.returns-clause-why
 returns-clause-why g c =
-    subst (λ (l : List (HeldSide g.row.D.Denot)). IfErr c.commit_on.result (λ fault. IsHalted g.row.D.Denot fault
+    subst (λ (l : List (HeldSide g.row.D.Denot)). IfErr c.commit_on.result (λ fault. IsHalted g.D.Area fault
     ⊎ IsUncommitted (g.W.Work.ran c.args.work.now c.commit_on.new.work) (IsUnbegunOn (segments_in l) l) (segments_in l) (bytes_at l) c.args.node.now.stage.room c.args.tries (commit_view c.commit_on.new.seat).seen fault))
     c.as_mut_slice.ensures.value c.commit_on.ensures.why

@@ -29,8 +29,8 @@ returns-clause-commits g c = let node = c.args.self.now in let olds : List (Held
     (let both = length-append asked others in let all : length olds ≡ length (asked ++ others) = (λ i. length (whole i)) in let ok = c.args.held.now.sides.ok.0 in omega arith) in
     let back = written_back news others (drop (length (news ++ others)) olds) c.args.held.now.sides.len long in
     let e = c.commit_on.ensures in
-    let on : CommitsOn node (g.W.Work.ran c.args.work.now c.commit_on.new.work) c.args.tries asked news (commit_view c.args.seat.now) (commit_view c.commit_on.new.seat) c.commit_on.result =
+    let on : CommitsOn g.D.Area node (g.W.Work.ran c.args.work.now c.commit_on.new.work) c.args.tries asked news (commit_view c.args.seat.now) (commit_view c.commit_on.new.seat) c.commit_on.result =
     record { here = e.here; committed = e.committed; nothing = e.nothing; why = e.why; absent = e.absent; refused = e.refused } in
-    commits_first node (g.W.Work.ran c.args.work.now c.commit_on.new.work) c.args.tries c.args.count olds asked others news
+    commits_first g.D.Area node (g.W.Work.ran c.args.work.now c.commit_on.new.work) c.args.tries c.args.count olds asked others news
     (take c.args.held.now.sides.len (news ++ others ++ drop (length (news ++ others)) olds)) (commit_view c.args.seat.now) (commit_view c.commit_on.new.seat) c.commit_on.result
     whole c.split_at_mut-asked.ensures.front_len back same on
