@@ -3,7 +3,7 @@
 use Rattle.std.proofs.Common.{◌≡◌, ℕ, ◌<◌, List, [], ◌∷◌, ◌++◌, All, drop, length, Some, refl, sym, ap, subst, arith}
 use Rattle.std.specs.Prelude.{option_map, slice_get, slice_index_or}
 use Rattle.std.proofs.lemmas.List.Elements.{All-drop}
-use Rattle.std.proofs.lemmas.Option.{slice_get-get_or, slice_get_within}
+use Rattle.std.proofs.lemmas.Option.{slice_get_within}
 use Rattle.lc_recover.specs.Recovered.{RecoveredStore}
 use Rattle.lc_stage.specs.Seats.{commit_view, IsIdle}
 use Rattle.lc_stage.specs.Staging.{newcomer}
@@ -15,6 +15,7 @@ use Rattle.lc_cluster.specs.declared.cluster.Cluster.{Cluster}
 use Rattle.lc_cluster.specs.declared.member.Member.{Member}
 use Rattle.lc_node.specs.declared.opening.OpenedNode.{OpenedNode}
 use Rattle.lc_node.proofs.EachPlace.{each_more}
+use Rattle.lc_node.proofs.Joined.{all_from_each}
 
 module _ {A : Type 0} where
   pub front_of_all : (P : A → Type 0) (xs : List A) (x : A) → 0 < length xs → x ≡ slice_index_or xs 0 x → All P xs → P x
@@ -41,11 +42,6 @@ module _ {A B : Type 0} where
       place d there refl)
       k a got b got_newer
 
--- what stands at a place of a list
-module _ {A : Type 0} where
-  pub each_is : (P : A → Type 0) (xs : List A) → ((k : ℕ) (x : A) → slice_get xs k ≡ Some x → P x) → All P xs
-  each_is P xs each k d within = each k (slice_index_or xs k d) (slice_get-get_or xs k d within)
-
 -- the nodes of a recovered store, and the seats of each
 module _ {D : Type 0} (r : RecoveredStore D) (opened : List (OpenedNode D)) (up : All (IsOpened r) opened) (cluster : Cluster D) (seats : List Seat)
     (members : length cluster.members.items ≡ length opened) (as_many : length seats ≡ length opened)
@@ -63,7 +59,7 @@ module _ {D : Type 0} (r : RecoveredStore D) (opened : List (OpenedNode D)) (up 
       ((it.0.node, ap (option_map (λ (member : Member D). member.node)) it.1, is.0, subst IsIdle (sym is.1) refl), is.1)
 
   pub all_segments : All (λ (member : Member D). length member.node.segments.items ≡ r.geometry.segments) cluster.members.items
-  all_segments = each_is (λ (member : Member D). length member.node.segments.items ≡ r.geometry.segments) cluster.members.items
+  all_segments = all_from_each (λ (member : Member D). length member.node.segments.items ≡ r.geometry.segments) cluster.members.items
       (λ place member got.
       let within = slice_get_within cluster.members.items place member got in
       let its = stands seats place (omega (arith, within, members, as_many)) in

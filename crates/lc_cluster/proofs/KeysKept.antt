@@ -13,7 +13,7 @@ use Rattle.lc_cluster.specs.Receiving.{origin_of}
 use Rattle.lc_cluster.specs.Spread.{line_of}
 use Rattle.lc_cluster.specs.Wiring.{HasPeers, end_to, inbox_from}
 use Rattle.lc_cluster.specs.declared.wiring.NodeEnds.{NodeEnds}
-use Rattle.lc_cluster.proofs.Joined.{each_is}
+use Rattle.lc_node.proofs.Joined.{all_from_each}
 use Rattle.lc_cluster.proofs.LinesClosed.{is_some_of}
 use Rattle.lc_cluster.proofs.PeerPlaces.{place_within}
 
@@ -62,7 +62,7 @@ module _ {P : Type 0} (wired all : List (NodeEnds P)) (each : Each AreOnLines wi
 
   pub still_wired : (nodes : ℕ) → length wired ≡ nodes → AreWiredAs nodes wired → AreWiredAs nodes all
   still_wired nodes count w = record {
-    peers = each_is (HasPeers nodes) all (λ k is got.
+    peers = all_from_each (HasPeers nodes) all (λ k is got.
         let was = stands wired k (let l = each.long in let in_it = slice_get_within all k is got in omega arith) in
         let on = each.each k was.0 is was.1 got in
         let had = at_each (HasPeers nodes) wired k was.0 w.peers was.1 in

@@ -16,7 +16,7 @@ use Rattle.lc_cluster.specs.declared.joining.Post.{Post}
 use Rattle.lc_cluster.specs.declared.member.Member.{Member}
 use Rattle.lc_node.specs.declared.node.Node.{Node}
 use Rattle.lc_cluster.specs.declared.wiring.NodeEnds.{NodeEnds}
-use Rattle.lc_cluster.proofs.Joined.{each_is}
+use Rattle.lc_node.proofs.Joined.{all_from_each}
 
 keys_of_posts : {D : Type 0} (members : List (Member D)) → wired_in (map post_of members) ≡ wired_by members
 keys_of_posts [] = refl
@@ -38,7 +38,7 @@ module _ {D : Type 0} (cluster : Cluster D) where
   pub all_segments : (nodes : List (Node D)) → nodes ≡ map node_in cluster.members.items → All (λ (node : Node D). vec_len node.segments ≡ cluster.geometry.segments) nodes
   all_segments nodes are = subst (All (λ (node : Node D). vec_len node.segments ≡ cluster.geometry.segments)) (sym are)
       (All-map (λ (node : Node D). vec_len node.segments ≡ cluster.geometry.segments) node_in cluster.members.items
-      (each_is (λ (member : Member D). vec_len member.node.segments ≡ cluster.geometry.segments) cluster.members.items cluster.all_segments))
+      (all_from_each (λ (member : Member D). vec_len member.node.segments ≡ cluster.geometry.segments) cluster.members.items cluster.all_segments))
 
   -- the locks beside the nodes know the lines
   pub all_wired : (posts : Vec (Post (Journey D))) → posts.items ≡ map post_of cluster.members.items → AreWiredAs (vec_len posts) (wired_in posts.items)

@@ -16,7 +16,7 @@ use Rattle.lc_node.specs.declared.message.Message.{Message}
 use Rattle.lc_cluster.specs.declared.peer_end.PeerEnd.{PeerEnd}
 use Rattle.lc_cluster.specs.declared.peer_inbox.PeerInbox.{PeerInbox}
 use Rattle.lc_cluster.specs.declared.wiring.NodeEnds.{NodeEnds}
-use Rattle.lc_cluster.proofs.Joined.{each_is}
+use Rattle.lc_node.proofs.Joined.{all_from_each}
 use Rattle.lc_cluster.proofs.PeerPlaces.{place_above, place_below}
 use mathlib.Core.Logic.{dite}
 use native.Mathlib.Decide.{dec_le}
@@ -152,7 +152,7 @@ module _ {P : Type 0} where
         ap (option_map origin_of) (sym (inbox_left t f (λ e. apart (sym e)) t_in)) ∙ (line ∙ ap (option_map line_of) (end_left f t apart f_in))
 
     peers_left : All (HasPeers (length whole)) whole → All (HasPeers (length news)) news
-    peers_left all = each_is (HasPeers (length news)) news (λ k new at.
+    peers_left all = all_from_each (HasPeers (length news)) news (λ k new at.
         let within = slice_get_within news k new at in
         let old = stands peers k (let l = each.long in omega arith) in
         let behind = each.each k old.0 new old.1 at in

@@ -1,5 +1,6 @@
 pub mod Calls
 pub mod Cluster
+pub mod ComingUp
 pub mod Copies
 pub mod Giving
 pub mod Joining

@@ -1,5 +1,5 @@
 //! The cluster of a recovered store.
-ghost use Rattle.std.specs.Prelude.{◌≡◌, ◌≤◌, ℕ, false, All, Some, length, slice_get, vec_len, IfErr, IfOk, IfSome};
+ghost use Rattle.std.specs.Prelude.{◌≡◌, ◌≤◌, ℕ, false, All, List, Some, length, slice_get, vec_len, IfErr, IfOk, IfSome};
 ghost use Rattle.lc_recover.specs.Reads.{HaveLengths};
 ghost use Rattle.lc_recover.specs.Recovered.{AreFinished};
 ghost use Rattle.lc_stage.specs.Staging.{newcomer};
@@ -7,9 +7,12 @@ ghost use Rattle.lc_stage.specs.Seats.{commit_view};
 ghost use Rattle.lc_stage.specs.declared.seats.CommitSeat.{CommitSeat as Seat};
 ghost use Rattle.lc_cluster.specs.Cluster.{IsSeatAt};
 ghost use Rattle.lc_lock.specs.Loans.{key_of};
+ghost use Rattle.lc_cluster.specs.ComingUp.{ComeUpIn};
 ghost use Rattle.lc_cluster.specs.Joining.{IsRoomFor};
 ghost use Rattle.lc_cluster.specs.Keys.{HasOneKey, wired_in};
+ghost use Rattle.lc_node.specs.FreshNode.{AreFreshNodes};
 ghost use Rattle.lc_node.specs.OpenedNode.{StandByNumber};
+ghost use Rattle.lc_node.specs.declared.fresh_node.FreshNode.{FreshNode as Fresh};
 ghost use Rattle.lc_cluster.specs.declared.member.Member.{Member as TheMember};
 ghost use Rattle.lc_segments.specs.declared.node_fault.NodeFault.TheVariants.{NoMemory};
 
@@ -30,9 +33,9 @@ use lc_stage::CommitSeat;
 use std::alloc::Global;
 
 impl<D: Area + Drop> Cluster<D> {
-    /// The nodes of a recovered store, and the first committer's seat of each, in the order of their numbers. The token
-    /// of a segment is at the node whose number is the segment's modulo the number of nodes. All memory is taken before
-    /// the store is taken apart.
+    /// The nodes of a recovered store, and the first committer's seat of each, in the order of their numbers: those of
+    /// `fresh_nodes` of `lc_node`, once each has come up. The token of a segment is at the node whose number is the
+    /// segment's modulo the number of nodes. All memory is taken before the store is taken apart.
     ///
     /// # Errors
     ///
@@ -50,6 +53,8 @@ impl<D: Area + Drop> Cluster<D> {
             → IsSeatAt made.0 node seat × (commit_view seat ≡ newcomer recovered.geometry.words)) }
         ensures segments { IfOk result (λ made.
             All (λ member. length member.node.segments.items ≡ recovered.geometry.segments) made.0.members.items) }
+        ensures comes_up { IfOk result (λ made. (fresh : List (Fresh D))
+            × AreFreshNodes recovered recovered.geometry.nodes fresh × ComeUpIn fresh made.0 made.1.items) }
         ensures back { IfErr result (λ back. (back.0 ≡ recovered) × (back.1 ≡ NoMemory)) }
     {
         let geometry = recovered.geometry();

@@ -1,8 +1,10 @@
 //! All nodes of a recovered store come up.
-ghost use Rattle.std.specs.Prelude.{◌≡◌, All, length, IfErr, IfOk};
+ghost use Rattle.std.specs.Prelude.{◌≡◌, All, List, length, IfErr, IfOk};
 ghost use Rattle.lc_recover.specs.Reads.{HaveLengths};
 ghost use Rattle.lc_recover.specs.Recovered.{AreFinished};
+ghost use Rattle.lc_node.specs.FreshNode.{AreFreshNodes, ComeUp};
 ghost use Rattle.lc_node.specs.OpenedNode.{IsOpened, StandByNumber};
+ghost use Rattle.lc_node.specs.declared.fresh_node.FreshNode.{FreshNode as Fresh};
 ghost use Rattle.lc_segments.specs.declared.node_fault.NodeFault.TheVariants.{NoMemory};
 
 use lc_disk::Area;
@@ -27,6 +29,8 @@ pub(crate) fn open_nodes<D: Area + Drop>(
     ensures count { IfOk result (λ nodes. length nodes.items ≡ recovered.geometry.nodes) }
     ensures each { IfOk result (λ nodes. All (IsOpened recovered) nodes.items) }
     ensures numbered { IfOk result (λ nodes. StandByNumber nodes.items) }
+    ensures comes_up { IfOk result (λ nodes. (fresh : List (Fresh D))
+        × AreFreshNodes recovered recovered.geometry.nodes fresh × ComeUp fresh nodes.items) }
     ensures back { IfErr result (λ back. (back.0 ≡ recovered) × (back.1 ≡ NoMemory)) }
 {
     let nodes = recovered.geometry().nodes;
