@@ -42,9 +42,7 @@ SEALED |= {"PeerEnd", "PeerInbox", "SendEnds", "RecvEnds"}
 STAYS = {
     "lc_segments NodeFault::code": "each fault has its number, for who keeps or sends it",
     "lc_node fresh_nodes": "the first half of an opening, whose clause is exact: for who wants to know what comes up",
-    "lc_node FreshNode": "what fresh_nodes answers",
     "lc_node FreshNode::come_up": "the second half of an opening",
-    "lc_node FreshNode::discard": "a fresh node is never dropped, and some caller does not want it",
 }
 
 CITES = re.compile(r"\b(?:Rattle\.(\w+)\.|(\w+)::)(?:specs|proofs)\b")

@@ -19,7 +19,7 @@ use std::sync::atomic::Ordering::SeqCst;
 use std::sync::atomic::Rule;
 
 /// The rule of a node's word that is 0 until a call of a device fails: any other value tells that one has failed.
-pub struct Halting<D> {
+pub(crate) struct Halting<D> {
     device: PhantomData<D>,
 }
 
