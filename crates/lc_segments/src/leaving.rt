@@ -1,5 +1,5 @@
 //! The token of a segment leaves a node, with the area of its pages.
-ghost use Rattle.std.specs.Prelude.{◌≡◌, ◌↔◌, ◌^◌, ◌≤◌, true, false, None, IfErr, IfOk, IsOk, OnOk, OnErr};
+ghost use Rattle.std.specs.Prelude.{◌≡◌, ◌↔◌, true, false, None, IfErr, IfOk, IsOk, OnOk, OnErr};
 ghost use Rattle.lc_segments.specs.Leaving.{HasFailed, IsUnleft, IsJourneyFrom, IsServing, without_token};
 ghost use Rattle.lc_segments.specs.Pages.{FitsToken};
 ghost use Rattle.lc_applied.specs.AppliedParts.{laid_parts};
@@ -70,20 +70,5 @@ impl<D: Area + Drop> Travelling<D> {
         ensures { result ≡ self.now.token.segment }
     {
         self.token.segment()
-    }
-
-    /// The token's number.
-    pub fn number(&self) -> u64
-        ensures number { result ≡ self.now.token.seq }
-        ensures small { result ≤ 2 ^ 60 }
-    {
-        self.token.seq()
-    }
-
-    /// The number of the node that the token left.
-    pub(crate) fn left(&self) -> u16
-        ensures { result ≡ self.now.left }
-    {
-        self.left
     }
 }
