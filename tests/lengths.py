@@ -7,7 +7,8 @@ usage: tests/lengths.py [DOCUMENT..]     (seconds; proves nothing; else README.m
  1. A line has at most 100 characters. Passed over are tables and blocks between ``` lines; of a link its text counts.
  2. A sentence has at most 40 words. A cell of a table, an item of a list and a heading end one. A text in backticks is
     one word, and a list of such texts in brackets is none.
- 3. README.md and docs/*.md have at most 140,000 bytes together. docs/reference/ is made of the sources.
+ 3. README.md and docs/*.md have at most 140,000 bytes together, and the README.md of all crates 80,000. docs/reference/ is
+    made of the sources.
 
 It prints each miss with its file and line; the last line is 'N passed, M failed'.
 """
@@ -19,7 +20,8 @@ import sys
 from typing import Iterator, List, Tuple
 
 TOP = pathlib.Path(__file__).resolve().parent.parent
-CHARACTERS, WORDS, BYTES = 100, 40, 140_000
+CHARACTERS, WORDS = 100, 40
+BYTES, BYTES_OF_CRATES = 140_000, 80_000
 
 FENCE = re.compile(r"(?ms)^```.*?^```$")
 TARGET = re.compile(r"\]\([^)\s]*\)|\]\[[^\]]*\]|^\[[^\]]*\]: .*$|<https?:[^>]*>")
@@ -46,7 +48,11 @@ class Found:
 
 
 def documents() -> List[pathlib.Path]:
-    return [*book(), TOP / "CONTRIBUTING.md", *sorted((TOP / "crates").glob("*/README.md"))]
+    return [*book(), TOP / "CONTRIBUTING.md", *of_crates()]
+
+
+def of_crates() -> List[pathlib.Path]:
+    return sorted((TOP / "crates").glob("*/README.md"))
 
 
 def book() -> List[pathlib.Path]:
@@ -97,8 +103,12 @@ def look_at(document: pathlib.Path) -> Found:
 
 def look_at_size() -> Found:
     found = Found([])
-    size = sum(len(it.read_bytes()) for it in book())
-    found.look(size <= BYTES, f"README.md and docs/*.md: {size} bytes, where {BYTES} may be")
+    for name, pages, most in [
+        ("README.md and docs/*.md", book(), BYTES),
+        ("crates/*/README.md", of_crates(), BYTES_OF_CRATES),
+    ]:
+        size = sum(len(it.read_bytes()) for it in pages)
+        found.look(size <= most, f"{name}: {size} bytes, where {most} may be")
     return found
 
 

@@ -304,6 +304,28 @@ def links(names: List[str], pages: Set[str]) -> str:
     return ", ".join(f"[{it}]({it}.md)" if it in pages else it for it in names) or "no other"
 
 
+def head_of(path: pathlib.Path) -> str:
+    """The comment at the head of a file, in one line."""
+    mark = "//!" if path.suffix == ".rt" else "--"
+    words = []
+    for line in path.read_text(encoding="utf-8").splitlines():
+        if not line.startswith(mark):
+            break
+        words.append(line[len(mark) :].strip())
+    return " ".join(words)
+
+
+def file_lines(crate: Crate) -> Iterator[str]:
+    """A row for each file of the crate but its root and its lists of modules, with what its head says."""
+    files = [it for it in sorted((crate.folder / "src").glob("**/*.rt")) if it != crate.root]
+    files += [it for it in sorted((crate.folder / "specs").glob("*.antt")) if it.stem != "Lib"]
+    if files:
+        yield from ["## Files", "", "| File | What it has |", "|---|---|"]
+    for it in files:
+        name = it.relative_to(crate.folder)
+        yield f"| [{name}](../../crates/{crate.name}/{name}) | {escaped(head_of(it))} |"
+
+
 def crate_page(crate: Crate, source: List[Section], pages: Set[str]) -> str:
     specs = [definitions(it) for it in sorted((crate.folder / "specs").glob("*.antt"))]
     handed_on = exports(crate)[2]
@@ -317,7 +339,8 @@ def crate_page(crate: Crate, source: List[Section], pages: Set[str]) -> str:
     if any(it.entries for it in specs):
         lines += ["## Definitions", ""]
     lines += [line for section in specs if section.entries for line in section_lines(crate, section, "")]
-    return "\n".join(lines)
+    lines += file_lines(crate)
+    return "\n".join(lines).rstrip() + "\n"
 
 
 def layers_page(found: List[Crate], pages: Set[str]) -> str:
