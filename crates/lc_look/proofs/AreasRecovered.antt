@@ -12,13 +12,14 @@ use Rattle.lc_record.specs.Marks.{counting}
 use Rattle.lc_record.specs.declared.geometry.Geometry.{Geometry}
 use Rattle.lc_record.proofs.ListLemmas.{counting_push as counting_more}
 use Rattle.lc_model.specs.Merge.{MergeFault, MergesTo, Refuses, StoreText}
+use Rattle.lc_model.specs.Stored.{page_bytes}
 use Rattle.lc_model.proofs.Outcome.{fault-apart, one-value}
 use Rattle.lc_model.specs.declared.refusal.Refusal.{Refusal}
 use Rattle.lc_model.specs.declared.reply.Reply.TheVariants.{Recovered as IsReply}
 use Rattle.lc_recover.specs.Fault.{IsRefusal}
 use Rattle.lc_recover.specs.Pages.{pages_read}
 use Rattle.lc_recover.specs.Reads.{AllMergeTo, AreHonest, AreOfBytes, HaveLengths, ReadsRefused, area_count, store_of}
-use Rattle.lc_recover.specs.Recovered.{IsMade, RecoveredStore, sequence_of}
+use Rattle.lc_recover.specs.Recovered.{IsMade, RecoveredStore, page_of, page_read_of, sequence_of}
 use Rattle.lc_recover.specs.Recovery.{IsDone, IsLast, IsMergeNext, IsMerged, Recovering, Tells, all_steps, begun}
 use Rattle.lc_recover.specs.Steps.{first_steps}
 use Rattle.lc_recover.specs.declared.fault.RecoverFault.{RecoverFault}
@@ -30,6 +31,7 @@ use Rattle.lc_look.specs.Recovers.{AreNumbered, Explains, IsOutward, Recovers, R
 use Rattle.lc_look.specs.Refused.{AreRefused, RefusesMerge, RefusesStore}
 use Rattle.lc_text.specs.Text.{recovered_text, refusal_text, reply_text, segment_text}
 use Rattle.lc_look.proofs.Refusals.{same_refusal}
+use Rattle.lc_look.proofs.RenewedBytes.{renewed_bytes}
 use Rattle.lc_text.proofs.Writes.{same_bytes}
 
 -- what is no step is the end
@@ -116,22 +118,34 @@ module _ {D : Type 0} (a : Ghosts D) (g : Geometry) (areas : List D) where
           omega (arith, at.early, all, g.some_nodes)
 
       -- the areas as they read merge to one result
-      its_numbers : HaveLengths a new.geometry new.areas → AreOfBytes a new.areas → (result : RecoveredStore D) → result.geometry ≡ new.geometry → result.areas ≡ new.areas → IsMade a result
-          → (numbers : ℕ → ℕ) → AreNumbered a g areas numbers → (segment : ℕ) → 1 ≤ segment → segment ≤ g.segments → sequence_of result segment ≡ numbers segment
-      its_numbers right bytes result same_geometry same_areas made numbers known segment first last =
-          let honest_now : AreHonest a new.areas = still_honest known.honest in
-          let its_honest : AreHonest a result.areas = subst (AreHonest a) (sym same_areas) honest_now in
-          let images : List (List ℕ) = map a.now new.areas in
-          let own = own-image a new.areas (λ k device is. bytes k device is (honest_now k device is)) in
-          let its_geometry : result.geometry ≡ g = same_geometry ∙ geometry ∙ goes.geometry in
-          let all_g : AllMergeTo a g result.areas made.content made.numbers = subst (λ (h : Geometry). AllMergeTo a h result.areas made.content made.numbers) its_geometry (made.all its_honest) in
-          let all : AllMergeTo a g new.areas made.content made.numbers = subst (λ (l : List D). AllMergeTo a g l made.content made.numbers) same_areas all_g in
-          let known_all : AllMergeTo a g new.areas known.content numbers = still_merge known.content numbers known.honest known.merges in
-          let all_areas : length new.areas ≡ area_count g = count-areas a g new.areas (subst (λ (h : Geometry). HaveLengths a h new.areas) (geometry ∙ goes.geometry) right) in
-          let count : length (store_of g images).pages ≡ g.segments =
-          length-map (drop g.nodes images) (pages_read g.pages) ∙ omega (arith, length-drop g.nodes images, length-map new.areas a.now, all_areas) in
-          let one = one-value (store_of g images) made.content known.content made.numbers numbers (all images own) (known_all images own) in
-          made.sequences segment first (subst (λ (h : Geometry). segment ≤ h.segments) (sym its_geometry) last) ∙ one.1 segment first (omega (arith, last, count))
+      module _ (right : HaveLengths a new.geometry new.areas) (bytes : AreOfBytes a new.areas) (result : RecoveredStore D) (same_geometry : result.geometry ≡ new.geometry)
+          (same_areas : result.areas ≡ new.areas) (made : IsMade a result) (numbers : ℕ → ℕ) (known : AreNumbered a g areas numbers) where
+        its_geometry : result.geometry ≡ g
+        its_geometry = same_geometry ∙ geometry ∙ goes.geometry
+
+        one_result : (made.content ≡ known.content) × ((segment : ℕ) → 1 ≤ segment → segment ≤ g.segments → made.numbers segment ≡ numbers segment)
+        one_result =
+            let honest_now : AreHonest a new.areas = still_honest known.honest in
+            let its_honest : AreHonest a result.areas = subst (AreHonest a) (sym same_areas) honest_now in
+            let images : List (List ℕ) = map a.now new.areas in
+            let own = own-image a new.areas (λ k device is. bytes k device is (honest_now k device is)) in
+            let all_g : AllMergeTo a g result.areas made.content made.numbers = subst (λ (h : Geometry). AllMergeTo a h result.areas made.content made.numbers) its_geometry (made.all its_honest) in
+            let all : AllMergeTo a g new.areas made.content made.numbers = subst (λ (l : List D). AllMergeTo a g l made.content made.numbers) same_areas all_g in
+            let known_all : AllMergeTo a g new.areas known.content numbers = still_merge known.content numbers known.honest known.merges in
+            let all_areas : length new.areas ≡ area_count g = count-areas a g new.areas (subst (λ (h : Geometry). HaveLengths a h new.areas) (geometry ∙ goes.geometry) right) in
+            let count : length (store_of g images).pages ≡ g.segments =
+            length-map (drop g.nodes images) (pages_read g.pages) ∙ omega (arith, length-drop g.nodes images, length-map new.areas a.now, all_areas) in
+            let one = one-value (store_of g images) made.content known.content made.numbers numbers (all images own) (known_all images own) in
+            (one.0, λ segment first last. one.1 segment first (omega (arith, last, count)))
+
+        its_numbers : (segment : ℕ) → 1 ≤ segment → segment ≤ g.segments → sequence_of result segment ≡ numbers segment
+        its_numbers segment first last = made.sequences segment first (subst (λ (h : Geometry). segment ≤ h.segments) (sym its_geometry) last) ∙ one_result.1 segment first last
+
+        its_bytes : (segment page : ℕ) → 1 ≤ segment → segment ≤ g.segments → page < g.pages → (page_of result segment page).bytes ≡ page_bytes segment page known.content
+        its_bytes segment page first last within =
+            renewed_bytes made.store made.content made.numbers (page_read_of result) result.geometry segment page made.merges.2 made.readable made.renewed first
+            (subst (λ (h : Geometry). segment ≤ h.segments) (sym its_geometry) last) (subst (λ (h : Geometry). page < h.pages) (sym its_geometry) within)
+            ∙ ap (page_bytes segment page) one_result.0
 
       pub recovers : HaveLengths a g areas → HaveLengths a new.geometry new.areas → AreOfBytes a new.areas → IsLast old → (result : RecoveredStore D) → result.geometry ≡ new.geometry → result.areas ≡ new.areas
           → IsMade a result → Recovers a g areas result
@@ -139,6 +153,7 @@ module _ {D : Type 0} (a : Ghosts D) (g : Geometry) (areas : List D) where
         geometry = same_geometry ∙ geometry ∙ goes.geometry;
         lengths = lengths;
         numbers = its_numbers right bytes result same_geometry same_areas made;
+        bytes = its_bytes right bytes result same_geometry same_areas made;
         accepted = accepted last;
       }
 

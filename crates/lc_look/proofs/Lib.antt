@@ -1,4 +1,5 @@
 pub mod Refusals
+pub mod RenewedBytes
 pub mod AreasRecovered
 mod ChecksShown
 mod JsonShown

@@ -1,14 +1,15 @@
 -- What a recovery on its own prints over these areas.
-use Rattle.std.specs.Prelude.{◌≡◌, ◌⊎◌, ℕ, ◌≤◌, List, map, Option}
+use Rattle.std.specs.Prelude.{◌≡◌, ◌⊎◌, ℕ, ◌<◌, ◌≤◌, List, map, Option}
 use Rattle.std.specs.Option.{option_map_or}
 use Rattle.lc_disk.specs.declared.area.Area.{Ghosts}
 use Rattle.lc_record.specs.Content.{Content}
 use Rattle.lc_record.specs.declared.geometry.Geometry.{Geometry}
 use Rattle.lc_model.specs.Merge.{MergeFault}
+use Rattle.lc_model.specs.Stored.{page_bytes}
 use Rattle.lc_model.specs.declared.refusal.Refusal.{Refusal}
 use Rattle.lc_recover.specs.Fault.{IsRefusal}
 use Rattle.lc_recover.specs.Reads.{AllMergeTo, AreHonest, HaveLengths, store_of}
-use Rattle.lc_recover.specs.Recovered.{RecoveredStore, sequence_of}
+use Rattle.lc_recover.specs.Recovered.{RecoveredStore, page_of, sequence_of}
 use Rattle.lc_recover.specs.declared.fault.RecoverFault.{RecoverFault}
 use Rattle.lc_recover.specs.declared.fault.RecoverFault.TheVariants.{BadGeometry, DeviceFault, NoMemory}
 use Rattle.lc_recover.specs.Fault.{refusal_to}
@@ -52,11 +53,18 @@ module _ {D : Type 0} (a : Ghosts D) where
   abbrev pub RecoversAreas : Geometry → List D → Option (List ℕ) → Option (List ℕ) → ℕ → Type 0
   RecoversAreas g areas held holds status = (numbers : ℕ → ℕ) → AreNumbered g areas numbers → Adds (RecoversStore g numbers) held holds status
 
-  -- what a recovery that came to its end has made of these areas: the store has their numbers, and they were not refused
+  -- each page of the store has its part of the content to which these areas merge
+  abbrev pub HasContentOf : (g : Geometry) (areas : List D) → RecoveredStore D → Type 0
+  HasContentOf g areas store =
+      (numbers : ℕ → ℕ) (known : AreNumbered g areas numbers) (segment page : ℕ) → 1 ≤ segment → segment ≤ g.segments → page < g.pages
+      → (page_of store segment page).bytes ≡ page_bytes segment page known.content
+
+  -- what a recovery that came to its end has made of these areas: the store has their numbers and bytes, and they were not refused
   pub record Recovers (g : Geometry) (areas : List D) (store : RecoveredStore D) : Type 0 where
     pub geometry : store.geometry ≡ g
     pub lengths : HaveLengths a g areas
     pub numbers : (numbers : ℕ → ℕ) → AreNumbered g areas numbers → (segment : ℕ) → 1 ≤ segment → segment ≤ g.segments → sequence_of store segment ≡ numbers segment
+    pub bytes : HasContentOf g areas store
     pub accepted : (fault : MergeFault) → AreRefused a g areas fault → ⊥
 
   -- why one of these areas did not

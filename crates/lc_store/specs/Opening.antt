@@ -59,6 +59,10 @@ module _ {D : Type 0} (a : Ghosts D) where
   Opens g areas (Err (NoStore misfit)) = ⊥
   Opens g areas (Err BadThreads) = ⊥
 
+  -- it is up on some areas
+  abbrev pub IsOpenOnSome : Geometry → World D a → Type 0
+  IsOpenOnSome g world = (areas : List D) × Opens g areas (Ok world)
+
   -- why a recovery of these areas has stopped
   abbrev pub RefusesAreas : Geometry → List D → StoreOpenFault → Type 0
   RefusesAreas g areas (BadGeometry area) = IsFirstWrong a g areas area

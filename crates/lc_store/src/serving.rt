@@ -1,12 +1,13 @@
 //! A store in a folder that is open for many threads.
 ghost use Rattle.std.specs.Prelude.{◌≡◌, ◌≢◌, length, IfOk};
+ghost use Rattle.lc_record.specs.declared.geometry.Geometry.{Geometry as Sizes};
 ghost use Rattle.lc_stage.specs.Staging.{newcomer};
 ghost use Rattle.lc_stage.specs.Seats.{commit_view, IsSeatOf};
+ghost use Rattle.lc_store.specs.Running.{RunsOnSome};
 
 use crate::StoreOpenFault;
 use crate::finding::found;
-use crate::recovering::recovered_on;
-use lc_core::CallFault;
+use crate::running::node_on;
 use lc_disk::Area;
 use lc_files::{OpenStore, SharedFile, SharedFolder, StoreArea, StoreFolder};
 use lc_node::Node;
@@ -35,9 +36,9 @@ impl<R: Files + Drop> Serving<StoreArea<SharedFolder<R>>, R::File>
 where
     R::File: SharedFile,
 {
-    /// Opens the store of this size that is in the folder, recovers it, and lets its node run; with the first seat,
-    /// which a thread gives to each of its transactions. Where the store has several nodes this is the first of them,
-    /// with all segments.
+    /// Opens the store of this size that is in the folder, recovers it, and lets its node run, as `node_on` does; with
+    /// the first seat, which a thread gives to each of its transactions. Where the store has several nodes this is the
+    /// first of them, with all segments.
     ///
     /// # Errors
     ///
@@ -52,14 +53,13 @@ where
         ensures number { IfOk result (λ made. made.0.node.number ≡ 0) }
         ensures room { IfOk result (λ made. made.0.node.stage.room ≡ geometry.words) }
         ensures segments { IfOk result (λ made. length made.0.node.segments.items ≡ geometry.segments) }
+        ensures runs { IfOk result (λ made.
+            RunsOnSome ⟦<StoreArea<SharedFolder<R>> as Area>⟧ geometry made.0.node made.1) }
         ensures bad_threads { result ≢ Err StoreOpenFault.BadThreads }
     {
         let OpenStore { areas, guard } = StoreFolder::open_shared(folder, &geometry)?;
-        let recovered = recovered_on(alloc, geometry, areas)?;
-        match Node::open(alloc, recovered) {
-            Ok((node, seat)) => Ok((Serving { node, guard }, seat)),
-            Err(_) => Err(StoreOpenFault::NotUp(CallFault::NoMemory)),
-        }
+        let (node, seat) = node_on(alloc, geometry, areas)?;
+        Ok((Serving { node, guard }, seat))
     }
 
     /// Opens the store that is in the folder, of the size that its own file says, or, where there is none, the lengths
@@ -75,6 +75,8 @@ where
         ensures seat { IfOk result (λ made. IsSeatOf made.0.node.stage made.1
             × (commit_view made.1 ≡ newcomer made.0.node.stage.room)) }
         ensures number { IfOk result (λ made. made.0.node.number ≡ 0) }
+        ensures runs { IfOk result (λ made. (geometry : Sizes) × (geometry.threads ≡ 1)
+            × RunsOnSome ⟦<StoreArea<SharedFolder<R>> as Area>⟧ geometry made.0.node made.1) }
         ensures bad_threads { result ≢ Err StoreOpenFault.BadThreads }
     {
         Serving::open(alloc, folder, found(alloc, &**folder, ANY_THREADS)?)

@@ -3,7 +3,7 @@ ghost use Rattle.std.specs.Prelude.{◌≡◌, ◌≢◌, ◌↔◌, true, IfOk,
 ghost use Rattle.lc_record.specs.declared.geometry.Geometry.{Geometry as Sizes};
 ghost use Rattle.lc_core.specs.Geometries.{phase_geometry};
 ghost use Rattle.lc_core.specs.Observed.{observed};
-ghost use Rattle.lc_store.specs.Opening.{IsNoThreadCount};
+ghost use Rattle.lc_store.specs.Opening.{IsNoThreadCount, IsOpenOnSome};
 
 use crate::StoreOpenFault;
 use crate::bringing_up::up_on;
@@ -48,6 +48,8 @@ where
             ≡ true) }
         ensures geometry { IfOk result (λ store.
             phase_geometry ⟦<StoreArea<&'a StoreFolder<R, P>> as Area>⟧ store.world.phase ≡ Some geometry) }
+        ensures opens { IfOk result (λ store.
+            IsOpenOnSome ⟦<StoreArea<&'a StoreFolder<R, P>> as Area>⟧ geometry store.world) }
         ensures bad_threads { result ≢ Err StoreOpenFault.BadThreads }
     {
         let OpenStore { areas, guard } = folder.open(&geometry)?;
@@ -72,6 +74,8 @@ where
         ensures geometry { IfOk result (λ store. (g : Sizes)
             × (phase_geometry ⟦<StoreArea<&'a StoreFolder<R, P>> as Area>⟧ store.world.phase ≡ Some g)
             × (g.threads ≡ threads)) }
+        ensures opens { IfOk result (λ store. (g : Sizes) × (g.threads ≡ threads)
+            × IsOpenOnSome ⟦<StoreArea<&'a StoreFolder<R, P>> as Area>⟧ g store.world) }
         ensures bad_threads { (result ≡ Err StoreOpenFault.BadThreads) ↔ IsNoThreadCount threads }
     {
         Store::open(alloc, folder, found(alloc, folder, threads)?)
