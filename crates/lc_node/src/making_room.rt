@@ -1,5 +1,6 @@
 //! A commit that makes room in the log where it has none.
-ghost use Rattle.std.specs.Prelude.{◌≡◌, ◌<◌, ◌≤◌, ◌↔◌, ℕ, [], All, Err, Ok, IfErr, IfOk, OnErr, length, take, vec_capacity};
+ghost use Rattle.std.specs.Prelude.{◌≡◌, ◌<◌, ◌≤◌, ◌↔◌, ℕ, [], All, Err, Ok, IfErr, IfOk, OnErr, length, take};
+ghost use Rattle.std.specs.Prelude.{vec_capacity};
 ghost use Rattle.lc_record.specs.Record.{Chain};
 ghost use Rattle.lc_stage.specs.Seats.{commit_view, IsSeatOf, IsIdle};
 ghost use Rattle.lc_node.specs.Commits.{segments_in};

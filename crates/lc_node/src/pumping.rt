@@ -106,8 +106,8 @@ impl Delivered {
 }
 
 impl<D: Area + Drop> PeerNode<D> {
-    /// Goes on with a message of a peer: a record is taken in at all its segments, a token arrives or waits. The message
-    /// comes back where it is refused, and where a token cannot wait.
+    /// Goes on with a message of a peer: a record is taken in at all its segments, a token arrives or waits. The
+    /// message comes back where it is refused, and where a token cannot wait.
     pub fn receive<R: Wait>(
         &self,
         rt: &R,
