@@ -36,7 +36,7 @@ MAY_NAME = {
 
 # The types whose fields are their crate's own.
 SEALED = {"TicketLock", "Loan", "SegSide", "LogSide", "Ended", "Held", "Node", "PeerNode", "Cluster"}
-SEALED |= {"PeerEnd", "PeerInbox", "SendEnds", "RecvEnds"}
+SEALED |= {"PeerEnd", "PeerInbox", "SendEnds", "RecvEnds", "Travelling"}
 
 # What stays public though no other crate names it, as 'CRATE NAME' or 'CRATE TYPE::NAME', and why.
 STAYS = {

@@ -1,6 +1,5 @@
 //! A node that has peers.
-ghost use Rattle.std.specs.Prelude.{◌≡◌, false};
-ghost use Rattle.std.specs.Prelude.{All, IfErr, IfOk, OnOk, vec_len};
+ghost use Rattle.std.specs.Prelude.{◌≡◌, false, All, IfErr, IfOk, OnOk, vec_len};
 ghost use Rattle.lc_stage.specs.Seats.{IsFlusherOf};
 ghost use Rattle.lc_log_side.specs.LeftBy.{AreReceived, IsIdleSeatOf};
 ghost use Rattle.lc_log_side.specs.Published.{published};

@@ -7,8 +7,8 @@ use std::marker::Model;
 /// its pages reads in every image as the token says. It knows the number of the node that it left. This project's own.
 #[derive(Drop)]
 pub struct Travelling<D: Area> {
-    pub token: Token,
-    pub area: D,
+    pub(crate) token: Token,
+    pub(crate) area: D,
     pub(crate) left: u16,
 }
 
