@@ -1,5 +1,6 @@
 //! The cluster of a recovered store.
-ghost use Rattle.std.specs.Prelude.{◌≡◌, ◌≤◌, ℕ, false, All, List, Some, length, slice_get, vec_len, IfErr, IfOk, IfSome};
+ghost use Rattle.std.specs.Prelude.{◌≡◌, ◌≤◌, ℕ, false, All, List, Some, length, slice_get, vec_len};
+ghost use Rattle.std.specs.Prelude.{IfErr, IfOk, IfSome};
 ghost use Rattle.lc_recover.specs.Reads.{HaveLengths};
 ghost use Rattle.lc_recover.specs.Recovered.{AreFinished};
 ghost use Rattle.lc_stage.specs.Staging.{newcomer};

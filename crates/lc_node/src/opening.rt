@@ -28,10 +28,11 @@ pub struct OpenedNode<D: Area + Drop> {
 }
 
 impl<D: Area + Drop> Node<D> {
-    /// The one node of a recovered store, and the first committer's seat: the one of `fresh_nodes`, once it has come up.
-    /// All segments are here, and nothing is known clean yet. It has no peer, so each truncation forgets the records of the rounds that have ended. A store of
-    /// several nodes comes up as one node too, on the log of the first, and is a store of one node then: the areas of
-    /// the other logs, which a recovery leaves empty, are dropped. All memory is taken before the store is taken apart.
+    /// The one node of a recovered store, and the first committer's seat: the node of `fresh_nodes`, once it came up.
+    /// All segments are here, and nothing is known clean yet. It has no peer, so each truncation forgets the records of
+    /// the rounds that have ended. A store of several nodes comes up as one node too, on the log of the first, and is a
+    /// store of one node then: the areas of the other logs, which a recovery leaves empty, are dropped. All memory is
+    /// taken before the store is taken apart.
     ///
     /// # Errors
     ///
@@ -79,8 +80,8 @@ fn with_one_node(geometry: Geometry) -> Geometry
     Geometry::new(1, threads, segments, pages, words).unwrap()
 }
 
-/// The first nodes of a store, so many, which share its tokens: those of `fresh_nodes`, once each has come up. All memory
-/// is taken before the store is taken apart.
+/// The first nodes of a store, so many, which share its tokens: those of `fresh_nodes`, once each has come up. All
+/// memory is taken before the store is taken apart.
 ///
 /// # Errors
 ///

@@ -46,8 +46,8 @@ impl<D: Area + Drop> SegRoom<D> {
         Ok(SegRoom { side, token, lock })
     }
 
-    // The segment as it comes up: with its token on the area of its pages, or where another node has the token. It takes
-    // no memory.
+    // The segment as it comes up: with its token on the area of its pages, or where another node has the token. It
+    // takes no memory.
     fn fill(self, area: Option<D>) -> FreshSegment<D>
         requires room { IsOfSegment (key_of self.lock.lock) self }
         requires fits { IfSome area (FitsRoom D.Area self) }
