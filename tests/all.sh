@@ -11,8 +11,8 @@
 # LCRVM, LC_C, LC_TESTS_STORE and NAMES may name them elsewhere. `make`, `cc` and `python3` are wanted. Some scripts take
 # more cuts, kills or seeds by an argument of their own: see their first lines.
 set -eu
+. "$(dirname "$0")/common.sh"
 
-top=$(cd "$(dirname "$0")/.." && pwd)
 export LCRVM="${LCRVM:-$top/crates/lcrvm/out/lcrvm}"
 export LC_C="${LC_C:-$top/crates/lc_c/out/liblc_c.a}"
 export NAMES="${NAMES:-$top/crates/names/out/names}"
@@ -61,9 +61,7 @@ rows='
 60 edits tests/edits.sh --fits
 '
 
-work=$(mktemp -d "${TMPDIR:-/tmp}/lcrvm-all.XXXXXX")
-trap 'rm -rf "$work"' EXIT
-trap 'exit 1' HUP INT TERM
+make_work
 export work
 cd "$top"
 
@@ -87,8 +85,6 @@ done > "$work/rows"
 [ -s "$work/rows" ] || { echo "no such script:$wanted"; echo '0 passed, 1 failed, 0 skipped'; exit 1; }
 xargs -d '\n' -n 1 -P "$lanes" sh "$work/row" < "$work/rows"
 
-passed=0
-failed=0
 skipped=0
 while read -r limit name command; do
     read -r status seconds < "$work/$name.end"
@@ -97,7 +93,7 @@ while read -r limit name command; do
         skipped=$((skipped + 1))
         echo "$name: $(grep '^skipped: ' "$work/$name.out")"
     elif [ "$status" -eq 0 ]; then
-        passed=$((passed + 1))
+        passes
         echo "$name: $last ($seconds s)"
     else
         failed=$((failed + 1))

@@ -12,19 +12,18 @@
 # A C compiler `cc` is wanted. It takes some seconds, and works in a folder of its own below TMPDIR. Root tries all of
 # it on a file system in memory too (ramfs), where two changes within one tick of the clock have one time.
 set -eu
+. "$(dirname "$0")/common.sh"
 
-top=$(cd "$(dirname "$0")/.." && pwd)
-program=$(realpath -m "${1:-$top/crates/lcrvm/out/lcrvm}")
-library=$(realpath "${2:-$top/crates/lc_c/out/liblc_c.a}")
-heap=$(realpath "${3:-$(dirname "$(rt doc | head -n 1)")/c/liblibc_c.a}")
+program=$(whole "${1:-$top/crates/lcrvm/out/lcrvm}")
+library=$(whole "${2:-$top/crates/lc_c/out/liblc_c.a}")
+heap=$(whole "${3:-$(heap_of_kit)}")
 
-work=$(mktemp -d "${TMPDIR:-/tmp}/lcrvm-clean-close.XXXXXX")
+make_work
 leave() {
     ! mountpoint -q "$work/ticks" 2> /dev/null || umount "$work/ticks"
     rm -rf "$work"
 }
 trap leave EXIT
-trap 'exit 1' HUP INT TERM
 
 command -v cc > /dev/null || { echo 'skipped: clean_close: there is no cc'; exit 0; }
 [ -r /proc/sys/kernel/random/boot_id ] || { echo 'skipped: clean_close: the system does not number its boots'; exit 0; }
@@ -36,16 +35,6 @@ cd "$work"
 case $(stat -c %y now) in
     *.000000000*) echo 'skipped: clean_close: the files have times of whole seconds'; exit 0 ;;
 esac
-
-passed=0
-failed=0
-passes() {
-    passed=$((passed + 1))
-}
-fails() {
-    failed=$((failed + 1))
-    echo "failed: $1"
-}
 
 # Makes steps in the store; what its opening prints is kept.
 makes() {
@@ -351,5 +340,4 @@ else
     echo 'skipped: the same by ticks: no ramfs can be mounted'
 fi
 
-echo "$passed passed, $failed failed"
-[ $failed -eq 0 ]
+ends_counted

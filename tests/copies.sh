@@ -6,24 +6,11 @@
 #
 # It takes some seconds, and works in a folder of its own below TMPDIR.
 set -eu
+. "$(dirname "$0")/common.sh"
 
-program=${1:-crates/lcrvm/out/lcrvm}
-case $program in */*) program=$(cd "$(dirname "$program")" && pwd)/$(basename "$program") ;; esac
-work=$(mktemp -d "${TMPDIR:-/tmp}/lcrvm-copies.XXXXXX")
-trap 'rm -rf "$work"' EXIT
-trap 'exit 1' HUP INT TERM
+program=$(whole "${1:-crates/lcrvm/out/lcrvm}")
+make_work
 cd "$work"
-
-passed=0
-failed=0
-name=
-passes() {
-    passed=$((passed + 1))
-}
-fails() {
-    failed=$((failed + 1))
-    echo "$name: $1"
-}
 
 # Copies by these words, and looks at the status, at what is printed, and that standard error has a text.
 copies() {
@@ -32,11 +19,11 @@ copies() {
     status=0
     "$program" copy "$@" > out 2> err || status=$?
     if [ "$status" -ne "$wanted" ]; then
-        fails "status $status, and not $wanted: $(cat out err)"
+        fails "$name: status $status, and not $wanted: $(cat out err)"
     elif [ "$(cat out)" != "$printed" ]; then
-        fails "printed '$(cat out)', and not '$printed'"
+        fails "$name: printed '$(cat out)', and not '$printed'"
     elif [ -n "$said" ] && ! grep -qF "$said" err; then
-        fails "standard error has '$(cat err)', and not '$said'"
+        fails "$name: standard error has '$(cat err)', and not '$said'"
     else
         passes
     fi
@@ -47,7 +34,7 @@ sums() {
 }
 
 is_same() {
-    if [ "$1" = "$2" ]; then passes; else fails "has '$1', and not '$2'"; fi
+    if [ "$1" = "$2" ]; then passes; else fails "$name: has '$1', and not '$2'"; fi
 }
 
 # The bytes of a segment from an offset on, after a recovery.
@@ -147,5 +134,4 @@ name='a copy of which a file cannot be written'
 read -r passed failed < counted
 is_same "$(ls none)" ''
 
-echo "$passed passed, $failed failed"
-[ "$failed" -eq 0 ]
+ends_counted

@@ -6,22 +6,17 @@
 #
 # It takes some seconds, and works in a folder of its own below TMPDIR.
 set -eu
+. "$(dirname "$0")/common.sh"
 
-top=$(cd "$(dirname "$0")/.." && pwd)
-program=${1:-$top/crates/lcrvm/out/lcrvm}
-case $program in */*) program=$(cd "$(dirname "$program")" && pwd)/$(basename "$program") ;; esac
+program=$(whole "${1:-$top/crates/lcrvm/out/lcrvm}")
 
-work=$(mktemp -d "${TMPDIR:-/tmp}/lcrvm-coprocess.XXXXXX")
-trap 'rm -rf "$work"' EXIT
-trap 'exit 1' HUP INT TERM
+make_work
 export PYTHONDONTWRITEBYTECODE=1
 
-passed=0
-failed=0
 attempt() {
     name=$1
     shift
-    if "$@"; then passed=$((passed + 1)); else failed=$((failed + 1)); echo "failed: $name"; fi
+    if "$@"; then passes; else fails "$name"; fi
 }
 
 # The record of `hello` has 8 words and stands at place 0 of a log that is new, or was emptied by the opening.
@@ -91,5 +86,4 @@ mkdir "$work/longer"
 "$program" init "$work/longer" --words 4096
 attempt 'calls' python3 "$work/calls.py" "$top/examples" "$work/longer" "$program"
 
-echo "$passed passed, $failed failed"
-[ $failed -eq 0 ]
+ends_counted

@@ -7,21 +7,16 @@
 #
 # It takes some seconds, and works in a folder of its own below TMPDIR. A program that does not end within a minute is a failure.
 set -eu
+. "$(dirname "$0")/common.sh"
 
-program=${1:-crates/lcrvm/out/lcrvm}
-case $program in */*) program=$(cd "$(dirname "$program")" && pwd)/$(basename "$program") ;; esac
+program=$(whole "${1:-crates/lcrvm/out/lcrvm}")
 bound=60
 
-work=$(mktemp -d "${TMPDIR:-/tmp}/lcrvm-descriptors.XXXXXX")
-trap 'rm -rf "$work"' EXIT
-trap 'exit 1' HUP INT TERM
+make_work
 cd "$work"
 
-passed=0
-failed=0
 fail() {
-    echo "failed: $*" >&2
-    failed=$((failed + 1))
+    fails "$@"
     right=no
 }
 
@@ -77,7 +72,7 @@ holds() {
 }
 
 done_with() {
-    if [ $right = yes ]; then passed=$((passed + 1)); else echo "not right: $1" >&2; fi
+    if [ $right = yes ]; then passes; else echo "not right: $1" >&2; fi
 }
 
 for which in none 0 1 2 01 02 12 012; do

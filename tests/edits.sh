@@ -13,7 +13,7 @@
 # proved again, and changes nothing in the repository. Build them first, by `rt all check`. A crate then takes one check, and 10 to
 # 40 seconds more for each edit.
 set -euo pipefail
-top=$(cd "$(dirname "$0")/.." && pwd)
+. "$(dirname "$0")/common.sh"
 reader=$top/tests/edits.py
 
 case "${1:-}" in
@@ -30,21 +30,20 @@ if [ $# -eq 0 ]; then
     set -- $(cd "$top/crates" && for it in */by-hand; do echo "$(ls "$it" | wc -l) ${it%/by-hand}"; done | sort -rn | cut -d ' ' -f 2)
 fi
 
-copy=$(mktemp -d "${TMPDIR:-/tmp}/lcrvm-edits.XXXXXX")
-trap 'rm -rf "$copy"' EXIT
-cp "$top/crates.txt" "$top/HANDLES" "$copy"
+make_work
+cp "$top/crates.txt" "$top/HANDLES" "$work"
 for crate in "$top"/crates/*/; do
-    to=$copy/crates/$(basename "$crate")
+    to=$work/crates/$(basename "$crate")
     mkdir -p "$to/out"
     for part in src specs proofs out/rlib; do
         [ ! -d "$crate/$part" ] || cp -a "$crate/$part" "$to/$(dirname "$part")"
     done
 done
 for name in "$@"; do
-    cp -r "$top/crates/$name/by-hand" "$copy/crates/$name/must-fail"
+    cp -r "$top/crates/$name/by-hand" "$work/crates/$name/must-fail"
 done
 
-cd "$copy"
+cd "$work"
 printf '%s\n' "$@" | xargs -P "$lanes" -I NAME sh -c 'rt must-fail NAME > NAME.said 2>&1 || true; cat NAME.said'
 wanted=$(for name in "$@"; do ls "crates/$name/must-fail"; done | grep -c '\.edit$' || true)
 refused=$(cat ./*.said | grep -c 'refused, as it must be\(: \|$\)' || true)

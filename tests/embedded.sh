@@ -13,33 +13,20 @@
 #
 # A C compiler `cc` is wanted. It takes a minute, and works in a folder of its own below TMPDIR.
 set -eu
+. "$(dirname "$0")/common.sh"
 
-top=$(cd "$(dirname "$0")/.." && pwd)
 program=${1:-$top/crates/lcrvm/out/lcrvm}
 library=${2:-$top/crates/lc_c/out/liblc_c.a}
-heap=${3:-}
-[ -n "$heap" ] || heap=$(dirname "$(rt doc | head -n 1)")/c/liblibc_c.a
+heap=${3:-$(heap_of_kit)}
 kills=12
 
-work=$(mktemp -d "${TMPDIR:-/tmp}/lcrvm-embedded.XXXXXX")
-trap 'rm -rf "$work"' EXIT
-trap 'exit 1' HUP INT TERM
+make_work
 
 command -v cc > /dev/null || { echo 'skipped: embedded: there is no cc'; exit 0; }
 cc -std=c11 -Wall -Wextra -Werror -O2 -pthread -c "$top/clients/c/embedded.c" -o "$work/embedded.o"
 cc -std=c11 -Wall -Wextra -Werror -O2 -pthread -I"$top/include" "$top/tests/embedded_test.c" "$work/embedded.o" \
     "$library" "$heap" -o "$work/test"
 cc -shared -fPIC -O2 -o "$work/refuse.so" "$top/tests/refused_allocation.c" -ldl
-
-passed=0
-failed=0
-passes() {
-    passed=$((passed + 1))
-}
-fails() {
-    failed=$((failed + 1))
-    echo "$1"
-}
 
 # The greatest number in the first 256 bytes of segment 1, as the program reads them.
 number_by_program() {
@@ -181,5 +168,4 @@ for input in '< /dev/null' '<&-'; do for output in '> /dev/null' '>&-'; do for e
         [ "$(tail -n 1 "$work/checked")" = recovered ]; then passes; else fails "closed: $input $output $errors: status $status"; fi
 done; done; done
 
-echo "$passed passed, $failed failed"
-[ $failed -eq 0 ]
+ends_counted

@@ -6,26 +6,16 @@
 #
 # It takes a second, and works in a folder of its own below TMPDIR.
 set -eu
+. "$(dirname "$0")/common.sh"
 
-top=$(cd "$(dirname "$0")/.." && pwd)
-program=${1:-$top/crates/lcrvm/out/lcrvm}
-case $program in */*) program=$(cd "$(dirname "$program")" && pwd)/$(basename "$program") ;; esac
+program=$(whole "${1:-$top/crates/lcrvm/out/lcrvm}")
 
-work=$(mktemp -d "${TMPDIR:-/tmp}/lcrvm-examples.XXXXXX")
-trap 'rm -rf "$work"' EXIT
-trap 'exit 1' HUP INT TERM
+make_work
 mkdir "$work/bin" "$work/examples"
 cp "$program" "$work/bin/lcrvm"
 cp "$top"/examples/*.script "$work/examples"
 export PATH="$work/bin:$PATH"
 cd "$work"
-
-passed=0
-failed=0
-fails() {
-    failed=$((failed + 1))
-    echo "examples/$1"
-}
 
 for script in examples/*.script; do
     name=$(basename "$script" .script)
@@ -33,24 +23,23 @@ for script in examples/*.script; do
     command=$(sed -n '1s/^# //p' "$script")
     case $command in
         "lcrvm run "*" $script") ;;
-        *) fails "$name.script:1: no command that runs the script: $command"; continue ;;
+        *) fails "examples/$name.script:1: no command that runs the script: $command"; continue ;;
     esac
-    [ -f "$wanted" ] || { fails "$name.wanted is missing"; continue; }
+    [ -f "$wanted" ] || { fails "examples/$name.wanted is missing"; continue; }
     status=0
     sh -c "$command" > stdout 2> stderr || status=$?
     refusals=0
     ! grep -q '^refused ' "$wanted" || refusals=1
     if [ "$status" -eq $refusals ] && cmp -s stdout "$wanted" && [ ! -s stderr ]; then
-        passed=$((passed + 1))
+        passes
     else
-        fails "$name.script: status $status, where $refusals is wanted; what is printed, beside what is wanted:"
+        fails "examples/$name.script: status $status, where $refusals is wanted; what is printed, beside what is wanted:"
         diff stdout "$wanted" || :
         cat stderr
     fi
 done
 for wanted in "$top"/examples/*.wanted; do
     name=$(basename "$wanted" .wanted)
-    [ -f "examples/$name.script" ] || fails "$name.wanted: there is no such script"
+    [ -f "examples/$name.script" ] || fails "examples/$name.wanted: there is no such script"
 done
-echo "$passed passed, $failed failed"
-[ $failed -eq 0 ]
+ends_counted

@@ -12,15 +12,14 @@
 # Where these can't be had it says `skipped`, and the status is 0. It takes about a minute, and works in a folder of its own
 # below TMPDIR. No process is waited for longer than a minute.
 set -eu
+. "$(dirname "$0")/common.sh"
 
-program=${1:-crates/lcrvm/out/lcrvm}
-case $program in */*) program=$(cd "$(dirname "$program")" && pwd)/$(basename "$program") ;; esac
-tests=$(cd "$(dirname "$0")" && pwd)
+program=$(whole "${1:-crates/lcrvm/out/lcrvm}")
 bound=60
 most=200
 PATH=$PATH:/usr/sbin:/sbin
 
-work=$(mktemp -d "${TMPDIR:-/tmp}/lcrvm-failed-sync.XXXXXX")
+make_work
 device=''
 leave() {
     ! mountpoint -q "$work/disk" || umount "$work/disk" || umount -l "$work/disk" || true
@@ -28,7 +27,6 @@ leave() {
     device=''
 }
 trap 'leave; rm -rf "$work"' EXIT
-trap 'exit 1' HUP INT TERM
 cd "$work"
 
 skip() {
@@ -36,14 +34,9 @@ skip() {
     exit 0
 }
 
-failed=0
 # How often the system wrote back with no fault, and how often a recovery told one.
 clean=0
 told=0
-fail() {
-    echo "failed: $*" >&2
-    failed=$((failed + 1))
-}
 
 lcrvm() {
     timeout -k 5 "$bound" "$program" "$@"
@@ -58,7 +51,7 @@ enter() {
 for tool in losetup mkfs.ext4 mount umount mountpoint filefrag truncate cc; do
     command -v $tool > /dev/null || skip "there is no $tool"
 done
-cc -shared -fPIC -O2 -o calls.so "$tests/traced_calls.c" -ldl
+cc -shared -fPIC -O2 -o calls.so "$top/tests/traced_calls.c" -ldl
 mkdir disk
 truncate -s 16M made
 mkfs.ext4 -q -F -b 4096 made 2> /dev/null || skip 'no ext4 can be made'
@@ -98,14 +91,14 @@ leave
 holds() {
     status=0
     lcrvm recover disk/store $size > recovered 2> errors || status=$?
-    [ $status -eq 0 ] || { fail "$1: the recovery has status $status: $(tail -n 1 recovered)"; return; }
+    [ $status -eq 0 ] || { fails "$1: the recovery has status $status: $(tail -n 1 recovered)"; return; }
     status=0
     lcrvm run --store disk/store $size < look.script > looked 2> errors || status=$?
-    [ $status -eq 0 ] || { fail "$1: the look has status $status: $(tail -n 1 looked)"; return; }
+    [ $status -eq 0 ] || { fails "$1: the look has status $status: $(tail -n 1 looked)"; return; }
     one=$(sed -n 2p looked)
     two=$(sed -n 3p looked)
-    [ "$one" = "$two" ] || fail "$1: a part of a commit is there: $one, $two"
-    [ $((0x${one#bytes })) -ge "$2" ] || fail "$1: commit $2 was acknowledged, and it is $one"
+    [ "$one" = "$two" ] || fails "$1: a part of a commit is there: $one, $two"
+    [ $((0x${one#bytes })) -ge "$2" ] || fails "$1: commit $2 was acknowledged, and it is $one"
 }
 
 for mode in failed killed; do
@@ -114,7 +107,7 @@ for mode in failed killed; do
     while [ $number -le $most ]; do
         name="sync $number $mode"
         cp made image
-        enter image || { fail "$name: no disk"; break; }
+        enter image || { fails "$name: no disk"; break; }
         rm -f gate
         LD_PRELOAD="$work/calls.so" CALLS_FOLDER=disk/store CALLS_HELD=$number CALLS_GATE="$work/gate" \
             "$program" run --store disk/store $size < run.script > out 2> err &
@@ -125,10 +118,10 @@ for mode in failed killed; do
             turns=$((turns + 1))
         done
         if [ ! -e gate ]; then
-            kill -0 $running 2> /dev/null && { fail "$name: the run does not end"; kill -9 $running; }
+            kill -0 $running 2> /dev/null && { fails "$name: the run does not end"; kill -9 $running; }
             status=0
             wait $running || status=$?
-            [ $status -eq 0 ] || fail "$name: no sync failed, and the status is $status"
+            [ $status -eq 0 ] || fails "$name: no sync failed, and the status is $status"
             leave
             break
         fi
@@ -145,7 +138,7 @@ for mode in failed killed; do
                 sleep 0.01
                 turns=$((turns + 1))
             done
-            ! kill -9 $running 2> /dev/null || fail "$name: the run does not end"
+            ! kill -9 $running 2> /dev/null || fails "$name: the run does not end"
             wait $running || status=$?
         else
             kill -9 $running
@@ -156,12 +149,12 @@ for mode in failed killed; do
         losetup -c "$device"
         acked=$((2 + $(grep -c '^acked' out || true)))
         if [ $mode = failed ]; then
-            [ $status -eq 3 ] || fail "$name: a sync failed, and the status is $status"
-            grep -q '^lcrvm: disk/store/[a-z]*[0-9]*: Input/output error' err || fail "$name: standard error does not say it: $(cat err)"
+            [ $status -eq 3 ] || fails "$name: a sync failed, and the status is $status"
+            grep -q '^lcrvm: disk/store/[a-z]*[0-9]*: Input/output error' err || fails "$name: standard error does not say it: $(cat err)"
         else
             lcrvm recover disk/store $size > recovered 2> errors || status=$?
             [ $status -ne 3 ] || told=$((told + 1))
-            [ $status -eq 0 ] || [ $status -eq 3 ] || fail "$name: the recovery has status $status: $(tail -n 1 recovered)"
+            [ $status -eq 0 ] || [ $status -eq 3 ] || fails "$name: the recovery has status $status: $(tail -n 1 recovered)"
         fi
 
         # The store goes on.
@@ -169,18 +162,18 @@ for mode in failed killed; do
         holds "$name, after it" $acked
         status=0
         lcrvm run --store disk/store $size < next.script > next.out 2> errors || status=$?
-        [ $status -eq 0 ] && grep -q '^acked' next.out || fail "$name: the next run has status $status: $(tail -n 1 next.out)"
+        [ $status -eq 0 ] && grep -q '^acked' next.out || fails "$name: the next run has status $status: $(tail -n 1 next.out)"
 
         # The power goes: the disk has what was written back to it, and nothing else.
         cp image after
         leave
-        enter after || { fail "$name: no disk after the power's loss"; break; }
+        enter after || { fails "$name: no disk after the power's loss"; break; }
         holds "$name, after the loss of power" 7
         leave
         [ $failed -eq $before ] || lost=$((lost + 1))
         number=$((number + 1))
     done
-    [ $number -gt 1 ] || fail 'no sync was held'
+    [ $number -gt 1 ] || fails 'no sync was held'
     case $mode in
         failed) echo "each of $((number - 1)) syncs failed once: after $lost of them a store was not right" ;;
         killed)
@@ -189,4 +182,4 @@ for mode in failed killed; do
             ;;
     esac
 done
-if [ $failed -eq 0 ]; then echo "1 passed, 0 failed"; else echo "$failed times it was not right"; echo "0 passed, 1 failed"; exit 1; fi
+ends_as_one

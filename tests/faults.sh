@@ -8,24 +8,15 @@
 #
 # It takes a minute or two, and works in a folder of its own below TMPDIR. A program that does not end within a minute is a failure.
 set -eu
+. "$(dirname "$0")/common.sh"
 
-program=${1:-crates/lcrvm/out/lcrvm}
-case $program in */*) program=$(cd "$(dirname "$program")" && pwd)/$(basename "$program") ;; esac
-tests=$(cd "$(dirname "$0")" && pwd)
+program=$(whole "${1:-crates/lcrvm/out/lcrvm}")
 bound=60
 most=1000
 
-work=$(mktemp -d "${TMPDIR:-/tmp}/lcrvm-faults.XXXXXX")
-trap 'rm -rf "$work"' EXIT
-trap 'exit 1' HUP INT TERM
-cc -shared -fPIC -O2 -o "$work/calls.so" "$tests/traced_calls.c" -ldl
+make_work
+cc -shared -fPIC -O2 -o "$work/calls.so" "$top/tests/traced_calls.c" -ldl
 cd "$work"
-
-failed=0
-fail() {
-    echo "failed: $*" >&2
-    failed=$((failed + 1))
-}
 
 lcrvm() {
     timeout -k 5 "$bound" "$program" "$@"
@@ -101,23 +92,23 @@ told() {
     esac
     case $status in
         said) ;;
-        3) [ "$(tail -n 1 out)" = 'device fault' ] || fail "$1: it is no device fault on standard output" ;;
-        *) fail "$1, of $path: status $status" ;;
+        3) [ "$(tail -n 1 out)" = 'device fault' ] || fails "$1: it is no device fault on standard output" ;;
+        *) fails "$1, of $path: status $status" ;;
     esac
     case $error in 28) reason='No space left on device' ;; *) reason='Input/output error' ;; esac
     # A copy's fault may be said of the file or of the copy.
     sed 's/\.new: /: /' err > said
-    grep -F "$named" said | grep -q -F ": $reason" || fail "$1: standard error has not '$path: $reason': $(cat err)"
+    grep -F "$named" said | grep -q -F ": $reason" || fails "$1: standard error has not '$path: $reason': $(cat err)"
     case $(sed q mark) in
-        pwrite* | sync*) ! grep -q '^again' mark || fail "$1: what failed is called again: $(grep '^again' mark | tail -n 1)" ;;
+        pwrite* | sync*) ! grep -q '^again' mark || fails "$1: what failed is called again: $(grep '^again' mark | tail -n 1)" ;;
     esac
 }
 
 # A write or sync of an area that failed left an empty file in the folder, and nothing else does.
 marked() {
     case $2 in
-        pwrite | sync) [ -f at/store/fault ] && [ ! -s at/store/fault ] || fail "$1: no mark is left" ;;
-        *) [ ! -e at/store/fault ] || fail "$1: a mark is left, and no write or sync failed" ;;
+        pwrite | sync) [ -f at/store/fault ] && [ ! -s at/store/fault ] || fails "$1: no mark is left" ;;
+        *) [ ! -e at/store/fault ] || fails "$1: a mark is left, and no write or sync failed" ;;
     esac
 }
 
@@ -125,15 +116,15 @@ marked() {
 recovered() {
     after=0
     lcrvm recover "$store" $size > recovered 2>&1 || after=$?
-    [ $after -eq 0 ] || { fail "$1: the recovery after it has status $after: $(tail -n 1 recovered)"; return; }
+    [ $after -eq 0 ] || { fails "$1: the recovery after it has status $after: $(tail -n 1 recovered)"; return; }
     after=0
     lcrvm run --store "$store" $size < look.script > looked 2>&1 || after=$?
-    [ $after -eq 0 ] || { fail "$1: the look after it has status $after: $(tail -n 1 looked)"; return; }
+    [ $after -eq 0 ] || { fails "$1: the look after it has status $after: $(tail -n 1 looked)"; return; }
     one=$(sed -n 2p looked)
     two=$(sed -n 4p looked)
-    [ "$one" = "$two" ] || fail "$1: a part of a commit is there: $one, $two"
-    [ $((0x${one#bytes })) -ge "$2" ] || fail "$1: $2 commits were acknowledged, and $one are there"
-    [ "$(ls at/store | tr '\n' ' ')" = "$files" ] || fail "$1: other files are there: $(ls at/store | tr '\n' ' ')"
+    [ "$one" = "$two" ] || fails "$1: a part of a commit is there: $one, $two"
+    [ $((0x${one#bytes })) -ge "$2" ] || fails "$1: $2 commits were acknowledged, and $one are there"
+    [ "$(ls at/store | tr '\n' ' ')" = "$files" ] || fails "$1: other files are there: $(ls at/store | tr '\n' ' ')"
 }
 
 total=0
@@ -155,7 +146,7 @@ for scenario in run recover marked init inspect; do
             esac
             name="$scenario, $kind $number with error $error"
             if [ ! -e mark ]; then
-                [ $status -eq 0 ] || fail "$name: no call failed, and the status is $status"
+                [ $status -eq 0 ] || fails "$name: no call failed, and the status is $status"
                 break
             fi
             told "$name"
@@ -186,28 +177,28 @@ numbers() {
 numbers > before
 recovered 'a marked store with links' 3
 for file in log0 seg1; do
-    [ "$(readlink at/store/$file)" = ../other/its-$file ] || fail "a marked store with links: $file is no link"
-    [ "$(stat -c %a at/other/its-$file)" = 640 ] || fail "a marked store with links: its-$file has another mode"
+    [ "$(readlink at/store/$file)" = ../other/its-$file ] || fails "a marked store with links: $file is no link"
+    [ "$(stat -c %a at/other/its-$file)" = 640 ] || fails "a marked store with links: its-$file has another mode"
 done
-[ "$(ls at/other | tr '\n' ' ')" = 'its-log0 its-seg1 ' ] || fail "a marked store with links: other files are there"
+[ "$(ls at/other | tr '\n' ' ')" = 'its-log0 its-seg1 ' ] || fails "a marked store with links: other files are there"
 numbers > after
-[ "$(paste before after | awk '$1 == $2')" = '' ] || fail "a marked store with links: a file is no copy"
+[ "$(paste before after | awk '$1 == $2')" = '' ] || fails "a marked store with links: a file is no copy"
 rm -rf at/other
 
 rm -rf at/store
 cp -r base at/store
 status=0
 lcrvm run --store "$store" $size < run.script > /dev/full 2> err || status=$?
-[ $status -eq 3 ] || fail "a full standard output: status $status"
-grep -q '^lcrvm: standard output: No space left on device' err || fail "a full standard output is not named: $(cat err)"
+[ $status -eq 3 ] || fails "a full standard output: status $status"
+grep -q '^lcrvm: standard output: No space left on device' err || fails "a full standard output is not named: $(cat err)"
 recovered "a full standard output" 3
 rm -rf at/store
 cp -r base at/store
 status=0
 lcrvm run --store "$store" $size < "$work" > out 2> err || status=$?
-[ $status -eq 3 ] || fail "a folder as standard input: status $status"
-grep -q '^lcrvm: standard input: Is a directory' err || fail "a folder as standard input is not named: $(cat err)"
+[ $status -eq 3 ] || fails "a folder as standard input: status $status"
+grep -q '^lcrvm: standard input: Is a directory' err || fails "a folder as standard input is not named: $(cat err)"
 recovered "a folder as standard input" 3
 
 echo "$total calls failed, one a run"
-if [ $failed -eq 0 ]; then echo "1 passed, 0 failed"; else echo "$failed times it was not right"; echo "0 passed, 1 failed"; exit 1; fi
+ends_as_one

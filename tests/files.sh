@@ -9,10 +9,10 @@
 # is in the system's memory, and stays. It takes about a minute, and works in a folder of its own below TMPDIR. A program
 # that does not end within a minute is a failure.
 set -eu
+. "$(dirname "$0")/common.sh"
 
-program=${1:-crates/lcrvm/out/lcrvm}
+program=$(whole "${1:-crates/lcrvm/out/lcrvm}")
 seed=${2:-1}
-case $program in */*) program=$(cd "$(dirname "$program")" && pwd)/$(basename "$program") ;; esac
 
 scripts=200
 kills_in_runs=40
@@ -21,9 +21,7 @@ kills_wanted=30
 commits=400
 bound=60
 
-work=$(mktemp -d "${TMPDIR:-/tmp}/lcrvm-files.XXXXXX")
-trap 'rm -rf "$work"' EXIT
-trap 'exit 1' HUP INT TERM
+make_work
 cd "$work"
 
 fail() {

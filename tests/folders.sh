@@ -7,23 +7,17 @@
 #
 # It takes some seconds, and works in a folder of its own below TMPDIR. A program that does not end within 20 seconds is a failure.
 set -eu
+. "$(dirname "$0")/common.sh"
 
-program=${1:-crates/lcrvm/out/lcrvm}
-case $program in */*) program=$(cd "$(dirname "$program")" && pwd)/$(basename "$program") ;; esac
-tests=$(cd "$(dirname "$0")" && pwd)
+program=$(whole "${1:-crates/lcrvm/out/lcrvm}")
 bound=20
 
-work=$(mktemp -d "${TMPDIR:-/tmp}/lcrvm-folders.XXXXXX")
-trap 'rm -rf "$work"' EXIT
-trap 'exit 1' HUP INT TERM
-cc -shared -fPIC -O2 -o "$work/calls.so" "$tests/traced_calls.c" -ldl
+make_work
+cc -shared -fPIC -O2 -o "$work/calls.so" "$top/tests/traced_calls.c" -ldl
 cd "$work"
 
-passed=0
-failed=0
 fail() {
-    echo "failed: $name: $*" >&2
-    failed=$((failed + 1))
+    fails "$name: $*"
 }
 
 # Runs the program with nothing to read; `out`, `err` and `status` have how it ended.
@@ -41,7 +35,7 @@ ends() {
     else
         [ ! -s err ] || fail "standard error has $(tr '\n' '|' < err)"
     fi
-    passed=$((passed + 1))
+    passes
 }
 
 full='--nodes 2 --segments 2'
@@ -128,7 +122,7 @@ for how in 'run --store store --as-found' 'recover store --as-found'; do
     input=
     [ $status -eq 0 ] || fail "status $status: $(cat out err)"
     [ "$(tr '\n' '|' < err)" = 'lcrvm: store: the size is only as found: it has no lcrvm.store|' ] || fail "standard error has $(tr '\n' '|' < err)"
-    passed=$((passed + 1))
+    passes
 done
 
 # ---- a new store beside what stands there
@@ -166,7 +160,7 @@ for kind in open pwrite sync; do
             [ "$(ls -A at/store)" = '' ] || fail "left are: $(ls -A at/store | tr '\n' ' ')"
             ! grep -q 'left in place' err || fail "it says that something is left: $(cat err)"
         fi
-        passed=$((passed + 1))
+        passes
         number=$((number + 1))
     done
     [ $number -gt 1 ] || fail 'nothing failed'
@@ -252,7 +246,7 @@ timeout -k 5 $bound env LD_PRELOAD="$work/calls.so" CALLS_FOLDER="$work/at" CALL
     "$program" run --store at/store $full < commit.script > out 2> err || status=$?
 input=
 [ ! -e at/elsewhere ] || fail 'a file was made where the link leads to'
-passed=$((passed + 1))
+passes
 
 # ---- two folders of the same files
 
@@ -312,7 +306,7 @@ lcrvm check store
 first=$status
 lcrvm check other
 [ $first -eq 0 ] && [ $status -eq 0 ] || fail "statuses $first and $status"
-passed=$((passed + 1))
+passes
 
 # ---- names that are not stable
 
@@ -330,7 +324,7 @@ LC_ALL=C awk -v folder="$work/at/store" '
     $1 == "sync" && path[$2] == folder && $3 == 0 { synced = 1 }
     $1 == "print" { exit !synced }
     END { exit !synced }' trace || fail 'the folder is not synced in front of the first reply'
-passed=$((passed + 1))
+passes
 
 # ---- what is no folder, and no file
 
@@ -366,7 +360,7 @@ if [ "$(id -u)" -eq 0 ] && command -v setpriv > /dev/null; then
         status=0
         timeout -k 5 $bound setpriv --reuid 65534 --regid 65534 --clear-groups ./reader-program $how > out 2> err || status=$?
         [ $status -eq 0 ] || fail "status $status: $(tail -n 1 out) $(cat err)"
-        passed=$((passed + 1))
+        passes
     done
 fi
 
@@ -390,8 +384,7 @@ for how in '' '--follow'; do
     lcrvm run $how --store store $full
     input=
     [ $status -eq 0 ] && [ ! -s err ] || fail "status $status: $(cat err)"
-    passed=$((passed + 1))
+    passes
 done
 
-echo "$passed passed, $failed failed"
-[ $failed -eq 0 ]
+ends_counted

@@ -9,18 +9,13 @@
 #
 # `make`, a C compiler `cc`, `pkg-config` and `python3` with its headers are wanted. It takes half a minute, below TMPDIR.
 set -eu
+. "$(dirname "$0")/common.sh"
 
-top=$(cd "$(dirname "$0")/.." && pwd)
-whole() {
-    echo "$(cd "$(dirname "$1")" && pwd)/$(basename "$1")"
-}
 program=$(whole "${1:-$top/crates/lcrvm/out/lcrvm}")
 library=$(whole "${2:-$top/crates/lc_c/out/liblc_c.a}")
-heap=$(whole "${3:-$(dirname "$(rt doc | head -n 1)")/c/liblibc_c.a}")
+heap=$(whole "${3:-$(heap_of_kit)}")
 
-work=$(mktemp -d "${TMPDIR:-/tmp}/lcrvm-guide.XXXXXX")
-trap 'rm -rf "$work"' EXIT
-trap 'exit 1' HUP INT TERM
+make_work
 unset PREFIX BINDIR LIBDIR INCLUDEDIR MANDIR DOCDIR COMPLETIONDIR DESTDIR MAKEFLAGS MAKELEVEL CFLAGS CPPFLAGS LDFLAGS
 export PYTHONDONTWRITEBYTECODE=1
 

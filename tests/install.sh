@@ -15,30 +15,16 @@
 # `make`, a C compiler `cc` with its linker, and `python3` are wanted. What else is not there is named, as skipped.
 # What `make prove` would have kept of the files that are given is made up here. It takes half a minute, below TMPDIR.
 set -eu
+. "$(dirname "$0")/common.sh"
 
-top=$(cd "$(dirname "$0")/.." && pwd)
-whole() {
-    echo "$(cd "$(dirname "$1")" && pwd)/$(basename "$1")"
-}
 program=$(whole "${1:-$top/crates/lcrvm/out/lcrvm}")
 library=$(whole "${2:-$top/crates/lc_c/out/liblc_c.a}")
-heap=$(whole "${3:-$(dirname "$(rt doc | head -n 1)")/c/liblibc_c.a}")
+heap=$(whole "${3:-$(heap_of_kit)}")
 
-work=$(mktemp -d "${TMPDIR:-/tmp}/lcrvm-install.XXXXXX")
-trap 'rm -rf "$work"' EXIT
-trap 'exit 1' HUP INT TERM
+make_work
 unset PREFIX BINDIR LIBDIR INCLUDEDIR MANDIR DOCDIR COMPLETIONDIR DESTDIR MAKEFLAGS MAKELEVEL CFLAGS CPPFLAGS LDFLAGS
 export PYTHONDONTWRITEBYTECODE=1 LC_ALL=C
 
-passed=0
-failed=0
-passes() {
-    passed=$((passed + 1))
-}
-fails() {
-    failed=$((failed + 1))
-    echo "failed: $1"
-}
 attempt() {
     name=$1
     shift
@@ -335,5 +321,4 @@ END
     attempt 'why that is not packed' grep -q 'proved/lcrvm is missing' "$work/why"
 fi
 
-echo "$passed passed, $failed failed"
-[ $failed -eq 0 ]
+ends_counted

@@ -20,17 +20,18 @@ import socket
 import subprocess
 import sys
 import time
-from typing import Dict, Iterator, List, NamedTuple, NoReturn, Optional, Tuple
+from typing import Dict, Iterator, List, NamedTuple, Optional, Tuple
+
+from kills import PATIENCE, Moments, children, fail
 
 CLIENTS = 8
 # Names that a client has at most: with those of all others there is room in the table, which has 64.
 MOST_NAMES = 7
 # Requests of a client in a run, at most, and in a long one: that fills the queues of 64 lines, and the log twice.
 MOST_REQUESTS, LONG_REQUESTS = 40, 160
-# Of a hundred: kills while the store is opened, and long runs.
-WHILE_OPENING, LONG = 8, 5
-# Seconds: the latest moment of a kill after a reply, and after a start; how long a program may take for anything.
-SOON, OPENING, PATIENCE = 0.004, 0.02, 30.0
+# Of a hundred: long runs.
+LONG = 5
+MOMENTS = Moments(while_opening=8, opening=0.02, soon=0.004)
 
 Names = Dict[str, str]
 
@@ -126,10 +127,6 @@ def of_each(names: Names) -> List[Names]:
     return [{name: names[name] for name in names if owner(name) == number} for number in range(CLIENTS)]
 
 
-def fail(why: str) -> NoReturn:
-    raise SystemExit(f"failed: {why}")
-
-
 class Server:
     """A run of the server, and how clients reach it."""
 
@@ -202,18 +199,6 @@ class Server:
 
     def terminate(self) -> None:
         self._process.terminate()
-
-
-def children(process: subprocess.Popen) -> List[int]:
-    """The processes that a process has started. It may still have to start the first."""
-    limit = time.monotonic() + PATIENCE
-    while time.monotonic() < limit and process.poll() is None:
-        with open(f"/proc/{process.pid}/task/{process.pid}/children") as listed:
-            started = [int(child) for child in listed.read().split()]
-        if started:
-            return started
-        time.sleep(0.001)
-    fail("no server was started")
 
 
 def connect(path: str, process: subprocess.Popen) -> socket.socket:
@@ -334,23 +319,21 @@ class Story:
     def kill_one(self) -> None:
         server = self.start()
         replies = server.lines()
-        opening = self.chance.randrange(100) < WHILE_OPENING
-        if opening:
-            time.sleep(self.chance.random() * OPENING)
-        else:
+
+        def work() -> None:
             self.check(server)
             lines = self.requests()
             server.send(lines)
             left = self.chance.randrange(len(lines) + 1)
             while left > 0:
                 left -= self.hear(*next(replies))
-            time.sleep(self.chance.random() * SOON)
-        server.kill()
+
+        worked = MOMENTS.kill(self.chance, work, server.kill)
         # It goes on with what was read already: a new one would lose the lines that came with the last that was heard.
         for client, line in replies:
             self.hear(client, line)
         server.wait()
-        if not opening:
+        if worked:
             changes = self.acknowledged()
             self.changes += changes
             self.after_replies += changes > 0

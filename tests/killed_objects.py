@@ -15,25 +15,23 @@ import random
 import signal
 import subprocess
 import sys
-import time
 from typing import Dict, List, NamedTuple, Optional, Tuple
 
 HERE = os.path.dirname(os.path.abspath(__file__))
 EXAMPLE = os.path.join(HERE, "..", "examples", "objects.py")
 sys.path.insert(0, os.path.dirname(EXAMPLE))
 import objects as example  # noqa: E402
+from kills import Moments, fail  # noqa: E402
 
 lcrvm = example.lcrvm
 
 FOLDER = "store"
 # Changes of a worker that is killed, at most, and how many more it is told. So many fill the log more than once.
 CHANGES, SPARE = 100, 200
-# Of a hundred: kills while the store is opened; changes that delete an object, and that do so where all are there;
-# those that put one again; long ones.
-WHILE_OPENING, DELETED, DELETED_FROM_ALL, REPLACED, LONG = 10, 10, 60, 15, 1
+# Of a hundred: changes that delete an object, and that do so where all are there; those that put one again; long ones.
+DELETED, DELETED_FROM_ALL, REPLACED, LONG = 10, 60, 15, 1
 SHORT_BYTES, LONG_BYTES = 300, 20_000
-# Seconds: the latest moment of a kill after an acknowledgement, and after the start of a worker.
-SOON, OPENING = 0.005, 0.15
+MOMENTS = Moments(while_opening=10, opening=0.15, soon=0.005)
 
 
 class Change(NamedTuple):
@@ -117,20 +115,20 @@ def run_worker(lines: List[str], chance: Optional[random.Random]) -> Tuple[int, 
     assert worker.stdin is not None and worker.stdout is not None
     worker.stdin.write("".join(lines).encode())
     worker.stdin.close()
-    said = 0
+    replies: List[bytes] = []
+
+    def hear() -> None:
+        for _ in range(1 + chance.randrange(CHANGES)):
+            replies.append(worker.stdout.readline())
+
     if chance is not None:
-        if chance.randrange(100) < WHILE_OPENING:
-            time.sleep(chance.random() * OPENING)
-        else:
-            for _ in range(1 + chance.randrange(CHANGES)):
-                said += worker.stdout.readline() == b"done\n"
-            time.sleep(chance.random() * SOON)
-        worker.kill()
-    said += worker.stdout.read().splitlines().count(b"done")
+        MOMENTS.kill(chance, hear, worker.kill)
+    replies += worker.stdout.readlines()
+    said = replies.count(b"done\n")
     status = worker.wait()
     worker.stdout.close()
     if status != -signal.SIGKILL and (status != 0 or said != len(lines)):
-        raise SystemExit(f"failed: a worker ended with status {status}")
+        fail(f"a worker ended with status {status}")
     return said, status != 0
 
 
@@ -156,9 +154,9 @@ def check(wanted: List[Dict[str, bytes]], what: str) -> Dict[str, bytes]:
     there, consistent = found()
     if there not in wanted:
         wrong = [name for name in sorted({*there, *wanted[0]}) if there.get(name) != wanted[0].get(name)]
-        raise SystemExit(f"failed: {what}: other objects are there than were acknowledged: {' '.join(wrong[:10])}")
+        fail(f"{what}: other objects are there than were acknowledged: {' '.join(wrong[:10])}")
     if not consistent:
-        raise SystemExit(f"failed: {what}: the map is not that of the objects")
+        fail(f"{what}: the map is not that of the objects")
     return there
 
 
@@ -191,7 +189,7 @@ def show(there: Dict[str, bytes]) -> None:
     ]
     for number, (is_so, should) in enumerate(wanted):
         if is_so != should:
-            raise SystemExit(f"failed: command {number}: status {is_so[0]}")
+            fail(f"command {number}: status {is_so[0]}")
 
 
 def main(seed: int, kills: int, count: int) -> None:

@@ -8,13 +8,11 @@
 #
 # A C compiler `cc` is wanted. It takes some seconds, and works in a folder of its own below TMPDIR.
 set -eu
+. "$(dirname "$0")/common.sh"
 
-top=$(cd "$(dirname "$0")/.." && pwd)
 library=${1:-$top/crates/lc_c/out/liblc_c.a}
-heap=${2:-$(dirname "$(rt doc | head -n 1)")/c/liblibc_c.a}
-work=$(mktemp -d "${TMPDIR:-/tmp}/lcrvm-measures.XXXXXX")
-trap 'rm -rf "$work"' EXIT
-trap 'exit 1' HUP INT TERM
+heap=${2:-$(heap_of_kit)}
+make_work
 
 command -v cc > /dev/null || { echo 'skipped: measures: there is no cc'; exit 0; }
 
@@ -30,8 +28,6 @@ lmdb=$(linked lmdb.h -llmdb)
 [ -n "$sqlite" ] || sqlite=-DWITHOUT_SQLITE
 [ -n "$lmdb" ] || lmdb=-DWITHOUT_LMDB
 
-passed=0
-failed=0
 # Builds a program with these words, runs it, and looks for this as its last line.
 ends() {
     name=$1 last=$2
@@ -39,15 +35,13 @@ ends() {
     cc -std=c11 -Wall -Wextra -Werror -O2 -pthread -I"$top/include" "$top/clients/c/$name.c" "$top/clients/c/embedded.c" \
         "$library" "$heap" "$@" -o "$work/$name"
     if (cd "$work" && "./$name" --short) > "$work/said" 2>&1 && grep -qxF "$last" "$work/said"; then
-        passed=$((passed + 1))
+        passes
     else
-        failed=$((failed + 1))
-        echo "$name:"
+        fails "$name:"
         cat "$work/said"
     fi
 }
 ends bench 'both have the same bytes'
 ends peers 'all have the same bytes' "$sqlite" "$lmdb"
 
-echo "$passed passed, $failed failed"
-[ "$failed" -eq 0 ]
+ends_counted

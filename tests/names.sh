@@ -8,31 +8,25 @@
 #
 # It takes minutes, and works in a folder of its own below TMPDIR. What does not end in time is a failure.
 set -eu
+. "$(dirname "$0")/common.sh"
 
-top=$(cd "$(dirname "$0")/.." && pwd)
-names=${1:-${NAMES:-$top/crates/names/out/names}}
-program=${2:-${LCRVM:-$top/crates/lcrvm/out/lcrvm}}
+names=$(whole "${1:-${NAMES:-$top/crates/names/out/names}}")
+program=$(whole "${2:-${LCRVM:-$top/crates/lcrvm/out/lcrvm}}")
 kills=${3:-500}
 seed=${4:-1}
-case $names in */*) names=$(cd "$(dirname "$names")" && pwd)/$(basename "$names") ;; esac
-case $program in */*) program=$(cd "$(dirname "$program")" && pwd)/$(basename "$program") ;; esac
 bound=60
 
-work=$(mktemp -d "${TMPDIR:-/tmp}/lcrvm-names.XXXXXX")
-trap 'rm -rf "$work"' EXIT
-trap 'exit 1' HUP INT TERM
+make_work
 export PYTHONDONTWRITEBYTECODE=1
 cd "$work"
 
-passed=0
-failed=0
 # Compares a status and what was printed with what is wanted.
 is() {
     if [ "$2" = "$3" ]; then
-        passed=$((passed + 1))
+        passes
     else
-        failed=$((failed + 1))
-        printf 'failed: %s: it is\n%s\nand not\n%s\n' "$1" "$2" "$3"
+        fails "$1: it is"
+        printf '%s\nand not\n%s\n' "$2" "$3" >&2
     fi
 }
 
@@ -145,10 +139,5 @@ is 'the first process' "$(cat first)" '0 attributes
 mkdir killed
 "$program" init killed --threads 8 --pages 16 --words 4096
 echo "seed $seed"
-if python3 "$top/tests/killed_names.py" "$seed" "$kills" "$names" killed; then
-    passed=$((passed + 1))
-else
-    failed=$((failed + 1))
-fi
-echo "$passed passed, $failed failed"
-[ $failed -eq 0 ]
+if python3 "$top/tests/killed_names.py" "$seed" "$kills" "$names" killed; then passes; else fails kills; fi
+ends_counted

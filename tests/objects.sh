@@ -6,26 +6,24 @@
 #
 # It works in a folder of its own below TMPDIR. What does not end within ten minutes is a failure.
 set -eu
+. "$(dirname "$0")/common.sh"
 
 kills=${2:-20}
 objects=${3:-1000}
 seed=${4:-1}
-tests=$(cd "$(dirname "$0")" && pwd)
 bound=600
 
-work=$(mktemp -d "${TMPDIR:-/tmp}/lcrvm-objects.XXXXXX")
-trap 'rm -rf "$work"' EXIT
-trap 'exit 1' HUP INT TERM
+make_work
 export PYTHONDONTWRITEBYTECODE=1
 
 status=0
-"$tests/python_package.sh" "$work/package" ${1:+"$1"} || status=$?
+"$top/tests/python_package.sh" "$work/package" ${1:+"$1"} || status=$?
 [ $status -ne 77 ] || exit 0
 [ $status -eq 0 ] || { echo '0 passed, 1 failed'; exit 1; }
 
 cd "$work"
 echo "seed $seed"
-if timeout -k 5 $bound package/environment/bin/python "$tests/killed_objects.py" "$seed" "$kills" "$objects"; then
+if timeout -k 5 $bound package/environment/bin/python "$top/tests/killed_objects.py" "$seed" "$kills" "$objects"; then
     echo "1 passed, 0 failed"
 else
     echo "0 passed, 1 failed"

@@ -7,12 +7,10 @@
 #
 # The command `rt` is wanted. It works on a copy of the sources below TMPDIR. The last line is 'N passed, M failed'.
 set -euo pipefail
-top=$(cd "$(dirname "$0")/.." && pwd)
+. "$(dirname "$0")/common.sh"
 command -v rt > /dev/null || { echo 'skipped: there is no rt'; exit 0; }
 
-work=$(mktemp -d "${TMPDIR:-/tmp}/lcrvm-outsiders.XXXXXX")
-trap 'rm -rf "$work"' EXIT
-trap 'exit 1' HUP INT TERM
+make_work
 for crate in "$top"/crates/*/; do
     to=$work/crates/$(basename "$crate")
     mkdir -p "$to"
@@ -41,20 +39,13 @@ sed -i '/^ *\/\/ refused: /,/^ *\/\/ to here$/d' src/*.rt
 compiles=0
 rt try --test --seconds 10 > "$work/control" 2>&1 || compiles=$?
 
-passed=0
-failed=0
-fails() {
-    failed=$((failed + 1))
-    echo "$1"
-}
-
 # What the compiler said, as FILE|LINE|TEXT.
 sed -n 's/^\(.*\.rt\):\([0-9]*\):[0-9]*: error\[[^]]*\]: /\1|\2|/p' "$work/refused" > "$work/errors"
 while IFS='|' read -r file first last text; do
     if awk -F '|' -v file="$file" -v first="$first" -v last="$last" -v text="$text" '
         $1 == file && $2 >= first && $2 <= last && index($3, text) { found = 1 }
         END { exit !found }' "$work/errors"; then
-        passed=$((passed + 1))
+        passes
     else
         fails "tests/outsiders/$(basename "$file").txt:$first: is not refused with the text: $text"
     fi
@@ -68,10 +59,9 @@ while IFS='|' read -r file line text; do
 done < "$work/errors"
 [ "$status" -eq 1 ] || { fails "with these lines the status is $status, where 1 is wanted:"; tail -n 5 "$work/refused"; }
 if [ "$compiles" -eq 0 ] && grep -q '^test result: ok. 1 passed' "$work/control"; then
-    passed=$((passed + 1))
+    passes
 else
     fails "without these lines it does not compile (status $compiles):"
     tail -n 20 "$work/control"
 fi
-echo "$passed passed, $failed failed"
-[ "$failed" -eq 0 ]
+ends_counted

@@ -7,22 +7,14 @@
 #
 # It takes about a minute, and works in a folder of its own below TMPDIR. A program that does not end within a minute is a failure.
 set -eu
+. "$(dirname "$0")/common.sh"
 
-program=${1:-crates/lcrvm/out/lcrvm}
+program=$(whole "${1:-crates/lcrvm/out/lcrvm}")
 pairs=${2:-100}
-case $program in */*) program=$(cd "$(dirname "$program")" && pwd)/$(basename "$program") ;; esac
 bound=60
 
-work=$(mktemp -d "${TMPDIR:-/tmp}/lcrvm-processes.XXXXXX")
-trap 'rm -rf "$work"' EXIT
-trap 'exit 1' HUP INT TERM
+make_work
 cd "$work"
-
-failed=0
-fail() {
-    echo "failed: $*" >&2
-    failed=$((failed + 1))
-}
 
 lcrvm() {
     timeout -k 5 "$bound" "$program" "$@"
@@ -50,10 +42,10 @@ ended() {
         3)
             in_use=$((in_use + 1))
             grep -qxE 'lcrvm: store: store in use( by process [1-9][0-9]*)?' "$1.err" && [ "$(wc -l < "$1.err")" -eq 1 ] ||
-                fail "$3: status 3, and on standard error: $(cat "$1.err")"
-            [ "$(cat "$1.out")" = 'device fault' ] || fail "$3: a store in use is not a device fault alone"
+                fails "$3: status 3, and on standard error: $(cat "$1.err")"
+            [ "$(cat "$1.out")" = 'device fault' ] || fails "$3: a store in use is not a device fault alone"
             ;;
-        *) fail "$3: status $2: $(tail -n 1 "$1.out")" ;;
+        *) fails "$3: status $2: $(tail -n 1 "$1.out")" ;;
     esac
 }
 
@@ -82,22 +74,22 @@ while [ $pair -le "$pairs" ]; do
     status=0
     wait $two || status=$?
     ended second $status "$name"
-    [ $runs -ge 1 ] || fail "$name: none ran"
+    [ $runs -ge 1 ] || fails "$name: none ran"
     echo "$first $(grep -c '^acked' first.out)" >> wanted || true
     [ $((pair % 4)) -eq 0 ] || echo "$((first + 4)) $(grep -c '^acked' second.out)" >> wanted || true
 
     # All that was ever acknowledged in this store is there, and nothing of a process that did not run.
-    [ "$(ls store | tr '\n' ' ')" = 'lcrvm.store log0 seg1 seg2 ' ] || fail "$name: other files are there"
+    [ "$(ls store | tr '\n' ' ')" = 'lcrvm.store log0 seg1 seg2 ' ] || fails "$name: other files are there"
     status=0
     lcrvm recover store $size > recovered 2> /dev/null || status=$?
-    [ $status -eq 0 ] || fail "$name: the recovery has status $status: $(tail -n 1 recovered)"
+    [ $status -eq 0 ] || fails "$name: the recovery has status $status: $(tail -n 1 recovered)"
     { echo 'begin 0 0 1 2'; awk '{ for (s = 1; s <= 2; s++) print "read 0 0 " s " " $1 " 2" }' wanted; } > look.script
     status=0
     lcrvm run --store store $size < look.script > looked 2> /dev/null || status=$?
-    [ $status -eq 0 ] || fail "$name: the look has status $status: $(tail -n 1 looked)"
+    [ $status -eq 0 ] || fails "$name: the look has status $status: $(tail -n 1 looked)"
     awk '{ for (s = 1; s <= 2; s++) printf "bytes %04x\n", $2 }' wanted > told
     tail -n +2 looked | cmp -s - told || {
-        fail "$name: other commits are there than were acknowledged"
+        fails "$name: other commits are there than were acknowledged"
         # What follows is looked at in a new store.
         rm -rf store
         mkdir store
@@ -107,7 +99,7 @@ while [ $pair -le "$pairs" ]; do
     pair=$((pair + 1))
 done
 echo "$pairs pairs of processes: $in_use found the store in use"
-[ "$in_use" -gt 0 ] || fail "no process found the store in use"
+[ "$in_use" -gt 0 ] || fails "no process found the store in use"
 
 # ---- two that make a store
 
@@ -127,9 +119,9 @@ while [ $pair -le $inits ]; do
     wait $two || second=$?
     case "$first $second" in
         '0 1' | '0 3' | '1 0' | '3 0') ;;
-        *) fail "$name: the statuses are $first and $second" ;;
+        *) fails "$name: the statuses are $first and $second" ;;
     esac
-    lcrvm recover store $size > recovered 2>&1 || fail "$name: no recovery: $(tail -n 1 recovered)"
+    lcrvm recover store $size > recovered 2>&1 || fails "$name: no recovery: $(tail -n 1 recovered)"
     pair=$((pair + 1))
 done
 echo "$inits pairs made a store: one of each did"
@@ -145,14 +137,14 @@ lcrvm init store $full
     printf 'begin 0 0 2\nrange 0 0 2 0 1\nwrite 0 0 2 0 22\nend 0 0\nflush 0\n'
 } > two.script
 lcrvm run --store store $full < two.script > two.out
-[ "$(grep -c -x 'acked 1' two.out)" -eq 2 ] || fail 'no commits of two nodes'
+[ "$(grep -c -x 'acked 1' two.out)" -eq 2 ] || fails 'no commits of two nodes'
 cp -r store made
 
 # Nothing in the folder is another, and nothing is new.
 same() {
-    [ "$(ls -a store)" = "$(ls -a made)" ] || fail "$1: other files are there"
+    [ "$(ls -a store)" = "$(ls -a made)" ] || fails "$1: other files are there"
     for file in log0 log1 seg1 seg2; do
-        [ ! -f made/$file ] || cmp -s store/$file made/$file || fail "$1: $file is another"
+        [ ! -f made/$file ] || cmp -s store/$file made/$file || fails "$1: $file is another"
     done
 }
 
@@ -165,8 +157,8 @@ for sizes in '1 2' '2 1' '1 1'; do
             run) lcrvm run --store store --nodes $1 --segments $2 < two.script > out 2> err || status=$? ;;
             *) lcrvm recover store --nodes $1 --segments $2 > out 2> err || status=$? ;;
         esac
-        [ $status -eq 1 ] || fail "$name: status $status"
-        [ "$(cat out)" = "refused BadGeometry $(($1 + $2))" ] || fail "$name: $(tail -n 1 out)"
+        [ $status -eq 1 ] || fails "$name: status $status"
+        [ "$(cat out)" = "refused BadGeometry $(($1 + $2))" ] || fails "$name: $(tail -n 1 out)"
         same "$name"
         rm -rf store
         cp -r made store
@@ -190,16 +182,16 @@ for file in log0 log1 seg1 seg2; do
                 run) lcrvm run --store store $full < two.script > out 2> err || status=$? ;;
                 *) lcrvm recover store $full > out 2> err || status=$? ;;
             esac
-            [ $status -eq 3 ] || fail "$name: status $status"
-            [ "$(cat out)" = 'device fault' ] || fail "$name: $(tail -n 1 out)"
-            grep -q "^lcrvm: store/$file: ." err || fail "$name: standard error does not say so: $(cat err)"
-            [ $place = folder ] || grep -q -x "lcrvm: store/$file: No such file or directory.*" err || fail "$name: no reason: $(cat err)"
+            [ $status -eq 3 ] || fails "$name: status $status"
+            [ "$(cat out)" = 'device fault' ] || fails "$name: $(tail -n 1 out)"
+            grep -q "^lcrvm: store/$file: ." err || fails "$name: standard error does not say so: $(cat err)"
+            [ $place = folder ] || grep -q -x "lcrvm: store/$file: No such file or directory.*" err || fails "$name: no reason: $(cat err)"
             same "$name"
         done
     done
 done
 status=0
 lcrvm inspect store/log9 > out 2> err || status=$?
-[ $status -eq 3 ] && grep -q '^lcrvm: store/log9: No such file or directory' err || fail "inspect of nothing: status $status: $(cat err)"
+[ $status -eq 3 ] && grep -q '^lcrvm: store/log9: No such file or directory' err || fails "inspect of nothing: status $status: $(cat err)"
 
-if [ $failed -eq 0 ]; then echo "1 passed, 0 failed"; else echo "$failed times it was not right"; echo "0 passed, 1 failed"; exit 1; fi
+ends_as_one

@@ -5,11 +5,10 @@
 #
 # It works on a copy below FOLDER, so that scripts may do this side by side. Where a tool is missing it says so and ends with status 77.
 set -eu
+. "$(dirname "$0")/common.sh"
 
-top=$(cd "$(dirname "$0")/.." && pwd)
 folder=$1
-store=${2:-${LC_C:-$top/crates/lc_c/out/liblc_c.a}}
-case $store in /*) ;; *) store=$PWD/$store ;; esac
+store=$(whole "${2:-${LC_C:-$top/crates/lc_c/out/liblc_c.a}}")
 
 lacks() {
     echo "skipped: python package: $1"

@@ -10,14 +10,13 @@
 # The program and the tests have to be built: `(cd crates/lcrvm && rt run -- run < /dev/null)` and `(cd crates/lc_tests_store && rt test)`.
 # LCRVM and LC_TESTS_STORE may name them elsewhere.
 set -eu
+. "$(dirname "$0")/common.sh"
 
-top=$(cd "$(dirname "$0")/.." && pwd)
 program=${LCRVM:-$top/crates/lcrvm/out/lcrvm}
 tests=${LC_TESTS_STORE:-$top/crates/lc_tests_store/out/lc_tests_store_tests}
 most=100000
 
-work=$(mktemp -d "${TMPDIR:-/tmp}/lcrvm-growths.XXXXXX")
-trap 'rm -rf "$work"' EXIT
+make_work
 cc -shared -fPIC -O2 -o "$work/refuse.so" "$top/tests/refused_allocation.c" -ldl
 
 fail() {

@@ -6,17 +6,12 @@
 #
 # It takes a second, and works in a folder of its own below TMPDIR.
 set -eu
+. "$(dirname "$0")/common.sh"
 
-top=$(cd "$(dirname "$0")/.." && pwd)
-program=${1:-$top/crates/lcrvm/out/lcrvm}
-case $program in */*) program=$(cd "$(dirname "$program")" && pwd)/$(basename "$program") ;; esac
+program=$(whole "${1:-$top/crates/lcrvm/out/lcrvm}")
 
-work=$(mktemp -d "${TMPDIR:-/tmp}/lcrvm-runs.XXXXXX")
-trap 'rm -rf "$work"' EXIT
-trap 'exit 1' HUP INT TERM
+make_work
 
-passed=0
-failed=0
 for run in "$top"/tests/runs/*/; do
     run=${run%/}
     name=$(basename "$run")
@@ -32,13 +27,11 @@ for run in "$top"/tests/runs/*/; do
     ) < "$run/stdin" > "$work/stdout" 2> "$work/stderr" || status=$?
     wanted=$(cat "$run/status")
     if [ "$status" -eq "$wanted" ] && cmp -s "$work/stdout" "$run/stdout"; then
-        passed=$((passed + 1))
+        passes
     else
-        failed=$((failed + 1))
-        echo "failed: $name: status $status, where $wanted is wanted; what is printed, beside what is wanted:"
+        fails "$name: status $status, where $wanted is wanted; what is printed, beside what is wanted:"
         diff "$work/stdout" "$run/stdout" || :
         cat "$work/stderr"
     fi
 done
-echo "$passed passed, $failed failed"
-[ $failed -eq 0 ]
+ends_counted

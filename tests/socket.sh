@@ -8,18 +8,14 @@
 #
 # It takes a minute or two, and works in a folder of its own below TMPDIR. `cc` and `python3` are wanted.
 set -eu
+. "$(dirname "$0")/common.sh"
 
-top=$(cd "$(dirname "$0")/.." && pwd)
-names=${1:-${NAMES:-$top/crates/names/out/names}}
-program=${2:-${LCRVM:-$top/crates/lcrvm/out/lcrvm}}
+names=$(whole "${1:-${NAMES:-$top/crates/names/out/names}}")
+program=$(whole "${2:-${LCRVM:-$top/crates/lcrvm/out/lcrvm}}")
 kills=${3:-100}
 seed=${4:-1}
-case $names in */*) names=$(cd "$(dirname "$names")" && pwd)/$(basename "$names") ;; esac
-case $program in */*) program=$(cd "$(dirname "$program")" && pwd)/$(basename "$program") ;; esac
 
-work=$(mktemp -d "${TMPDIR:-/tmp}/lcrvm-socket.XXXXXX")
-trap 'rm -rf "$work"' EXIT
-trap 'exit 1' HUP INT TERM
+make_work
 export PYTHONDONTWRITEBYTECODE=1
 cd "$work"
 
@@ -30,13 +26,10 @@ for store in tried killed; do
     "$program" init $store --threads 8 --pages 16 --words 4096
 done
 
-passed=0
-failed=0
 attempt() {
-    if "$@"; then passed=$((passed + 1)); else failed=$((failed + 1)); fi
+    if "$@"; then passes; else fails "$2"; fi
 }
 attempt python3 "$top/tests/socket_test.py" ./names_socket "$names" tried
 echo "seed $seed"
 attempt python3 "$top/tests/killed_names.py" "$seed" "$kills" "$names" killed ./names_socket
-echo "$passed passed, $failed failed"
-[ $failed -eq 0 ]
+ends_counted

@@ -12,32 +12,20 @@
 # KILLS, COPIES and CUTS are how many of each are made, by default 100, 100 and 200. A C compiler `cc` is wanted. It takes two
 # minutes, and works in a folder of its own below TMPDIR.
 set -eu
+. "$(dirname "$0")/common.sh"
 
-top=$(cd "$(dirname "$0")/.." && pwd)
 library=${1:-$top/crates/lc_c/out/liblc_c.a}
-heap=${2:-}
-[ -n "$heap" ] || heap=$(dirname "$(rt doc | head -n 1)")/c/liblibc_c.a
+heap=${2:-$(heap_of_kit)}
 kills=${KILLS:-100}
 copies=${COPIES:-100}
 cuts=${CUTS:-200}
 bound=300
 
-work=$(mktemp -d "${TMPDIR:-/tmp}/lcrvm-threads.XXXXXX")
+make_work
 process=''
 trap '[ -z "$process" ] || kill -KILL $process 2> /dev/null; rm -rf "$work"' EXIT
-trap 'exit 1' HUP INT TERM
 
 command -v cc > /dev/null || { echo 'skipped: threads: there is no cc'; exit 0; }
-
-passed=0
-failed=0
-passes() {
-    passed=$((passed + 1))
-}
-fails() {
-    failed=$((failed + 1))
-    echo "failed: $*"
-}
 
 # Compiles both programs, by these flags, with this at the end of their names.
 compile() {
@@ -139,5 +127,4 @@ sanitized address '-fsanitize=address,undefined -fno-sanitize-recover=all'
 
 tries threads figures
 cat "$work/told"
-echo "$passed passed, $failed failed"
-[ $failed -eq 0 ]
+ends_counted

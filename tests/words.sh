@@ -6,13 +6,10 @@
 #
 # It takes some seconds, and works in a folder of its own below TMPDIR. It wants Python 3.8 or later.
 set -eu
+. "$(dirname "$0")/common.sh"
 
-top=$(cd "$(dirname "$0")/.." && pwd)
-program=${1:-$top/crates/lcrvm/out/lcrvm}
-case $program in */*) program=$(cd "$(dirname "$program")" && pwd)/$(basename "$program") ;; esac
-work=$(mktemp -d "${TMPDIR:-/tmp}/lcrvm-words.XXXXXX")
-trap 'rm -rf "$work"' EXIT
-trap 'exit 1' HUP INT TERM
+program=$(whole "${1:-$top/crates/lcrvm/out/lcrvm}")
+make_work
 cd "$work"
 
 python3 - "$program" "$top/tests/words.txt" <<'PYTHON'

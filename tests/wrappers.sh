@@ -12,31 +12,23 @@
 # `make` and a C compiler `cc` are wanted. Without `g++`, or without `cargo`, that wrapper is named, as skipped. It
 # takes half a minute, and works in a folder of its own below TMPDIR.
 set -eu
+. "$(dirname "$0")/common.sh"
 
-top=$(cd "$(dirname "$0")/.." && pwd)
-whole() {
-    echo "$(cd "$(dirname "$1")" && pwd)/$(basename "$1")"
-}
 program=$(whole "${1:-$top/crates/lcrvm/out/lcrvm}")
 library=$(whole "${2:-$top/crates/lc_c/out/liblc_c.a}")
-heap=$(whole "${3:-$(dirname "$(rt doc | head -n 1)")/c/liblibc_c.a}")
+heap=$(whole "${3:-$(heap_of_kit)}")
 bound=120
 
-work=$(mktemp -d "${TMPDIR:-/tmp}/lcrvm-wrappers.XXXXXX")
-trap 'rm -rf "$work"' EXIT
-trap 'exit 1' HUP INT TERM
+make_work
 unset PREFIX BINDIR LIBDIR INCLUDEDIR MANDIR DOCDIR COMPLETIONDIR DESTDIR MAKEFLAGS MAKELEVEL CFLAGS CPPFLAGS LDFLAGS
 
-passed=0
-failed=0
 attempt() {
     name=$1
     shift
     if timeout -k 5 $bound "$@" > "$work/said" 2>&1; then
-        passed=$((passed + 1))
+        passes
     else
-        failed=$((failed + 1))
-        echo "failed: $name"
+        fails "$name"
         tail -n 20 "$work/said"
     fi
 }
@@ -247,5 +239,4 @@ for wrapper in lcrvm.hpp rust/src/lib.rs; do
     attempt "$wrapper has more than 80 lines" test "$(wc -l < "examples/$wrapper")" -le 80
 done
 
-echo "$passed passed, $failed failed"
-[ $failed -eq 0 ]
+ends_counted
