@@ -1,3 +1,5 @@
-pub mod Keeping
+pub mod KeptReceipts
 pub mod ReadBack
 pub mod Updated
+pub mod Devices
+pub mod Nodes

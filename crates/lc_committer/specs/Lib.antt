@@ -2,3 +2,5 @@ pub mod Committer
 pub mod Kept
 pub mod Records
 pub mod Update
+pub mod Acquiring
+pub mod Round

@@ -13,8 +13,8 @@ use Rattle.lc_record.proofs.RecordLemmas.{begins_from, record_length}
 use Rattle.lc_log.specs.LogText.{IsWhole, joined}
 use Rattle.lc_log.proofs.LogLemmas.{joined-append, whole_record}
 use Rattle.lc_stage.specs.Staging.{AreRecords, IsOneRecord}
-use Rattle.lc_trunc.specs.KnownClean.{known as known_of}
-use Rattle.lc_trunc.specs.Reset.{AreKnown, BeginWith}
+use Rattle.lc_token.specs.KnownClean.{known as known_of}
+use Rattle.lc_token.specs.Reset.{AreKnown, BeginWith}
 use Rattle.lc_rest.specs.Parts.{AreSpelled, IsKnownClean}
 
 -- words that are records begin with each of them

@@ -10,7 +10,7 @@ use Rattle.lc_log.specs.NodeLog.{IsAtRest, IsIdle}
 use Rattle.lc_log.proofs.LogLemmas.{one_text-by}
 use Rattle.lc_stage.specs.Publishing.{HoldsTaken}
 use Rattle.lc_stage.specs.Staging.{AreRecords}
-use Rattle.lc_ended.specs.Left.{IsLeft}
+use Rattle.lc_log_side.specs.Left.{IsLeft}
 use Rattle.lc_rest.specs.Parts.{KeepsLog}
 use Rattle.lc_rest.specs.declared.node_part.NodePart.{NodePart}
 use Rattle.lc_rest.proofs.SpelledWords.{all_text}

@@ -2,8 +2,8 @@
 use Rattle.std.proofs.Common.{◌≡◌, ℕ, zero, suc, ◌<◌, ◌≤◌, ◌==◌, max, List, [], ◌∷◌, All, get_or, inl, inr, arith}
 use Rattle.std.proofs.lemmas.Bool.{cases_Bool}
 use Rattle.lc_token.specs.declared.token.Token.{Token}
-use Rattle.lc_trunc.specs.KnownClean.{known, Sees}
-use Rattle.lc_trunc.specs.Reset.{AreKnown}
+use Rattle.lc_token.specs.KnownClean.{known, Sees}
+use Rattle.lc_token.specs.Reset.{AreKnown}
 
 -- no number falls
 pub sees-grows : (old new : List ℕ) (token : Token) → Sees old token new → (segment : ℕ) → known old segment ≤ known new segment

@@ -7,8 +7,8 @@ use Rattle.std.proofs.lemmas.List.Folds.{concat-append}
 use Rattle.lc_log.specs.LogText.{IsWhole, joined}
 use Rattle.lc_log.proofs.LogLemmas.{joined-append}
 use Rattle.lc_rest.specs.Parts.{IsKnownClean}
-use Rattle.lc_ended.specs.Ended.{EndedWords}
-use Rattle.lc_ended.specs.Left.{IsLeft}
+use Rattle.lc_log_side.specs.Ended.{EndedWords}
+use Rattle.lc_log_side.specs.Left.{IsLeft}
 use Rattle.lc_log_side.specs.Published.{records_of}
 use Rattle.lc_log_side.proofs.EndedRecords.{AreOf}
 

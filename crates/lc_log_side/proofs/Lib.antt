@@ -17,3 +17,5 @@ pub mod Refused
 pub mod Rounds
 pub mod SideKeeps
 pub mod Unfit
+mod FirstRecord
+pub mod Leaving

@@ -6,11 +6,11 @@ use Rattle.std.proofs.lemmas.Option.{slice_get_read, slice_get_within, same_Some
 use Rattle.lc_disk.specs.declared.area.Area.{Ghosts}
 use Rattle.lc_stage.specs.declared.stage_view.StageView.{StageView}
 use Rattle.lc_stage.specs.Seats.{flush_view}
-use Rattle.lc_trunc.specs.KnownClean.{Sees}
+use Rattle.lc_token.specs.KnownClean.{Sees}
 use Rattle.lc_token.specs.declared.token.Token.{Token}
 use Rattle.lc_record.proofs.ListLemmas.{slice_get-set_same as get_same, slice_get-set_other as get_other}
 use Rattle.lc_segments.specs.Each.{Each}
-use Rattle.lc_log_side.specs.Ended.{HasRoom}
+use Rattle.lc_log_side.specs.EndedRoom.{HasRoom}
 use Rattle.lc_log_side.specs.Flushes.{Flushes}
 use Rattle.lc_log_side.specs.LogView.{LogView}
 use Rattle.lc_segments.specs.declared.node_fault.NodeFault.{NodeFault}

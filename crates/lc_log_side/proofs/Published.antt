@@ -17,7 +17,7 @@ use Rattle.lc_log_side.specs.Published.{records_behind, records_of, published, I
 use Rattle.lc_log.specs.LogText.{joined, IsWhole as IsRecordWhole}
 use Rattle.lc_record.specs.Record.{spelling}
 use Rattle.lc_record.specs.declared.record.Record.{Record}
-use Rattle.lc_ended.specs.Left.{IsLeft}
+use Rattle.lc_log_side.specs.Left.{IsLeft}
 use Rattle.lc_log.proofs.LogLemmas.{whole_record}
 use Rattle.lc_log_side.proofs.Fronts.{one_alone}
 use Rattle.lc_log_side.proofs.FlushKeeps.{records_append}

@@ -10,8 +10,8 @@ use Rattle.lc_record.specs.declared.record.Record.{Record}
 use Rattle.lc_stage.specs.Staging.{Agree, InLog, IsOneRecord, Owns}
 use Rattle.lc_stage.specs.declared.stage_view.Reservation.{Reservation}
 use Rattle.lc_stage.specs.declared.stage_view.StageView.{StageView}
-use Rattle.lc_trunc.specs.KnownClean.{known as known_of}
-use Rattle.lc_trunc.specs.Reset.{AreKnown, BeginWith, IsAbove}
+use Rattle.lc_token.specs.KnownClean.{known as known_of}
+use Rattle.lc_token.specs.Reset.{AreKnown, BeginWith, IsAbove}
 use Rattle.lc_log_side.specs.Among.{IsAmong}
 use Rattle.lc_log_side.specs.LeftBy.{IsReceived}
 use Rattle.lc_log_side.proofs.Confirms.{among_stable, stands}

@@ -9,9 +9,9 @@ use Rattle.lc_stage.specs.Staging.{hears, sealing, AreRecords}
 use Rattle.lc_stage.specs.Seats.{commit_view, flush_view, publishing, IsIdle, IsUnsealed, OnlyTakes}
 use Rattle.lc_stage.specs.declared.fault.StageFault.{StageFault}
 use Rattle.lc_stage.specs.declared.fault.StageFault.TheVariants.{Moved, Full, Sealed, RoundsSpent}
-use Rattle.lc_trunc.specs.KnownClean.{known}
-use Rattle.lc_trunc.specs.Reset.{AreKnown}
-use Rattle.lc_ended.specs.Ended.{EndedWords}
+use Rattle.lc_token.specs.KnownClean.{known}
+use Rattle.lc_token.specs.Reset.{AreKnown}
+use Rattle.lc_log_side.specs.Ended.{EndedWords}
 use Rattle.lc_log_side.specs.LogSide.{HasStable, IsLogSide}
 use Rattle.lc_log_side.specs.Published.{records_of}
 use Rattle.lc_log_side.proofs.LeftWords.{left-same}

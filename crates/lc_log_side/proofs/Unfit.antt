@@ -2,10 +2,10 @@
 use Rattle.std.proofs.Common.{◌≡◌, ◌≢◌, ℕ, ◌+◌, ◌<◌, ◌^◌, List, [], ◌∷◌, Err, length, refl, sym, ap, subst, ◌∙◌, inl, inr, arith, true≢false}
 use Rattle.std.specs.Prelude.{◌↔◌, Result}
 use Rattle.lc_model.specs.Merge.{IsLeastPair}
-use Rattle.lc_trunc.specs.KnownClean.{known}
-use Rattle.lc_trunc.specs.Reset.{AreKnown, IsAbove}
-use Rattle.lc_trunc.proofs.LeastLemmas.{least_once}
-use Rattle.lc_log_side.specs.Ended.{HasRoom}
+use Rattle.lc_token.specs.KnownClean.{known}
+use Rattle.lc_token.specs.Reset.{AreKnown, IsAbove}
+use Rattle.lc_token.proofs.LeastLemmas.{least_once}
+use Rattle.lc_log_side.specs.EndedRoom.{HasRoom}
 use Rattle.lc_log_side.specs.LogView.{LogView}
 use Rattle.lc_log_side.specs.Resets.{CanReset, IsReady, IsSpent, IsUnfit, IsKept, Seals}
 use Rattle.lc_segments.specs.declared.node_fault.NodeFault.{NodeFault}

@@ -1,17 +1,14 @@
--- The memory for the words of the rounds that have ended.
-use Rattle.std.specs.Prelude.{◌≡◌, ◌≤◌}
-use Rattle.lc_stage.specs.Seats.{flush_view}
-use Rattle.lc_log_side.specs.LogView.{LogView}
+-- The words of the records of the rounds that have ended, of which those in front may have been dropped.
+use Rattle.std.specs.Prelude.{ℕ, ◌+◌, ◌*◌, ◌^◌, ◌<◌, ◌≤◌, List}
 
-module _ {D : Type 0} where
-  -- there is room for the words of one round more
-  abbrev pub HasRoom : LogView D → Type 0
-  HasRoom log = (flush_view log.flusher).room ≤ log.ended_room
+-- how many words were dropped, those that are kept, and for how many more there is memory
+pub record EndedWords : Type 0 where
+  pub gone : ℕ
+  pub words : List ℕ
+  pub room : ℕ
 
-  -- there is now, and nothing else has changed; where there was before, nothing has
-  abbrev pub MakesRoom : LogView D → LogView D → Type 0
-  MakesRoom old new = HasRoom new × (new ≡ record old { ended_room = new.ended_room }) × (HasRoom old → new ≡ old)
-
-  -- there was not, and nothing has changed
-  abbrev pub LacksRoom : LogView D → LogView D → Type 0
-  LacksRoom old new = ¬ HasRoom old × (new ≡ old)
+-- the words in front that were dropped and are not yet moved out are half of them at most
+pub record HasShortFront (len capacity cut moved : ℕ) : Type 0 where
+  pub within : len ≤ capacity
+  pub half : cut * 2 ≤ len
+  pub small : moved + len < 2 ^ 64

@@ -7,8 +7,8 @@ use Rattle.lc_stage.specs.declared.seats.CommitSeat.{CommitSeat}
 use Rattle.lc_stage.specs.declared.stage.Stage.{Stage}
 use Rattle.lc_stage.specs.declared.stage_view.Reservation.{Reservation}
 use Rattle.lc_stage.specs.declared.stage_view.StageView.{StageView}
-use Rattle.lc_trunc.specs.KnownClean.{known as known_of}
-use Rattle.lc_trunc.specs.Reset.{AreKnown}
+use Rattle.lc_token.specs.KnownClean.{known as known_of}
+use Rattle.lc_token.specs.Reset.{AreKnown}
 use Rattle.lc_rest.specs.declared.node_part.NodePart.{NodePart}
 use Rattle.lc_log_side.specs.Among.{IsAmong}
 use Rattle.lc_log_side.specs.LogView.{LogView}

@@ -1,5 +1,6 @@
 pub mod Among
 pub mod Ended
+pub mod EndedRoom
 pub mod Flushes
 pub mod Halting
 pub mod LeftBy
@@ -12,3 +13,5 @@ pub mod Resets
 pub mod Settling
 pub mod Truncates
 pub mod Trimming
+pub mod Trims
+pub mod Left

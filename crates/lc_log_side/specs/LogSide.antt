@@ -8,9 +8,9 @@ use Rattle.lc_record.specs.declared.record.Record.{Record}
 use Rattle.lc_stage.specs.Publishing.{HoldsTaken}
 use Rattle.lc_stage.specs.Staging.{AreRecords}
 use Rattle.lc_stage.specs.Seats.{flush_view, commit_view, IsIdle}
-use Rattle.lc_trunc.specs.KnownClean.{known}
-use Rattle.lc_trunc.specs.Reset.{AreKnown}
-use Rattle.lc_ended.specs.Left.{IsLeft}
+use Rattle.lc_token.specs.KnownClean.{known}
+use Rattle.lc_token.specs.Reset.{AreKnown}
+use Rattle.lc_log_side.specs.Left.{IsLeft}
 use Rattle.lc_log_side.specs.LogView.{LogView}
 use Rattle.lc_log_side.specs.Published.{records_of}
 use Rattle.lc_log_side.specs.declared.log_state.LogState.{LogState}

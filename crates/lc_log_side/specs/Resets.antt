@@ -2,8 +2,8 @@
 use Rattle.std.specs.Prelude.{◌≡◌, ◌≢◌, ◌⊎◌, ℕ, ◌+◌, ◌-◌, ◌*◌, ◌^◌, true, false, [], ◌∷◌, ◌++◌, length}
 use Rattle.lc_model.specs.Merge.{IsLeastPair}
 use Rattle.lc_stage.specs.Seats.{commit_view, flush_view}
-use Rattle.lc_trunc.specs.KnownClean.{known}
-use Rattle.lc_trunc.specs.Reset.{AreKnown, IsAbove}
+use Rattle.lc_token.specs.KnownClean.{known}
+use Rattle.lc_token.specs.Reset.{AreKnown, IsAbove}
 use Rattle.lc_log_side.specs.LogView.{LogView}
 use Rattle.lc_segments.specs.declared.node_fault.NodeFault.{NodeFault}
 use Rattle.lc_segments.specs.declared.node_fault.NodeFault.TheVariants.{Lost, RoundsSpent, Unclean, DeviceFault, Halted}

@@ -1,6 +1,6 @@
 -- Of a log under its lock: what a log forgets of the rounds that have ended.
 use Rattle.std.specs.Prelude.{◌≡◌, ℕ, ◌+◌, ◌≤◌, List, [], length, All}
-use Rattle.lc_ended.specs.Trims.{Trims}
+use Rattle.lc_log_side.specs.Trims.{Trims}
 use Rattle.lc_log.specs.LogText.{IsWhole, joined}
 use Rattle.lc_record.specs.declared.record.Record.{Record}
 use Rattle.lc_log_side.specs.LogView.{LogView}

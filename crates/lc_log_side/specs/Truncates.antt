@@ -2,9 +2,9 @@
 use Rattle.std.specs.Prelude.{◌≡◌, ◌⊎◌, ℕ, ◌*◌, ◌<◌, ◌≤◌, true, false, List, [], ◌∷◌, length, Option, Some, None, slice_get}
 use Rattle.lc_disk.specs.declared.area.Area.{Ghosts}
 use Rattle.lc_token.specs.declared.token.Token.{Token}
-use Rattle.lc_trunc.specs.KnownClean.{Sees}
+use Rattle.lc_token.specs.KnownClean.{Sees}
 use Rattle.lc_segments.specs.Each.{Each}
-use Rattle.lc_log_side.specs.Ended.{LacksRoom, MakesRoom}
+use Rattle.lc_log_side.specs.EndedRoom.{LacksRoom, MakesRoom}
 use Rattle.lc_log_side.specs.Flushes.{Flushes, IsUnflushed}
 use Rattle.lc_log_side.specs.Halting.{IsUntruncatable}
 use Rattle.lc_log_side.specs.LogView.{LogView}

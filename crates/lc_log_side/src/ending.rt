@@ -1,7 +1,7 @@
 //! The words of the rounds that have ended.
 ghost use Rattle.std.specs.Prelude.{OnOk, OnErr};
 ghost use Rattle.lc_stage.specs.Seats.{IsFlusherOf};
-ghost use Rattle.lc_log_side.specs.Ended.{LacksRoom, MakesRoom};
+ghost use Rattle.lc_log_side.specs.EndedRoom.{LacksRoom, MakesRoom};
 
 use crate::log_side::LogSide;
 use lc_disk::Area;

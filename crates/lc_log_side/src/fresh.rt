@@ -3,16 +3,16 @@ ghost use Rattle.std.specs.Prelude.{◌≡◌, ◌≢◌, ◌+◌, ◌*◌, ◌%
 ghost use Rattle.std.specs.Prelude.{vec_capacity};
 ghost use Rattle.lc_stage.specs.Seats.{commit_view, flush_view};
 ghost use Rattle.lc_stage.specs.Staging.{newcomer, flusher as first_flusher};
-ghost use Rattle.lc_trunc.specs.KnownClean.{KnowsNothing};
+ghost use Rattle.lc_token.specs.KnownClean.{KnowsNothing};
 
+use crate::Ended;
 use crate::log_side::LogSide;
 use crate::log_state::LogState;
 use lc_disk::Area;
-use lc_ended::Ended;
 use lc_log::NodeLog;
 use lc_record::Group;
 use lc_stage::{CommitSeat, FlushSeat};
-use lc_trunc::KnownClean;
+use lc_token::KnownClean;
 
 impl<D: Area + Drop> LogSide<D> {
     /// The log of a stage of which flusher and probe have seen nothing yet, on an area that begins with no open gate:

@@ -1,8 +1,11 @@
-//! A node's log under its lock: what is flushed, settled, reset and told.
+//! A node's log under its lock: what is flushed, settled, reset and told, and which records of the rounds that have
+//! ended are dropped.
 #![tactic(auto)]
 
 mod cleaning;
 mod confirming;
+mod dropping;
+mod ended;
 mod ending;
 mod flushing;
 mod fresh;
@@ -20,5 +23,6 @@ mod trimming;
 mod truncating;
 
 pub use confirming::Confirmed;
-pub use laws::starts_stay;
+pub use ended::Ended;
+pub use laws::{dropped_follow, left, starts_stay};
 pub use log_side::LogSide;

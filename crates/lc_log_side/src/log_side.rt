@@ -1,16 +1,15 @@
 //! A node's log, with what is staged for it.
 ghost use Rattle.lc_stage.specs.Seats.{IsSeatOf, IsFlusherOf};
 ghost use Rattle.std.specs.Prelude.{◌≡◌, length, ◌≤◌};
-ghost use Rattle.lc_trunc.specs.KnownClean.{Sees};
+ghost use Rattle.lc_token.specs.KnownClean.{Sees};
 
+use crate::Ended;
 use crate::log_state::LogState;
 use lc_disk::Area;
-use lc_ended::Ended;
 use lc_lock::Keyed;
 use lc_record::Group;
 use lc_stage::{CommitSeat, FlushSeat, Stage};
-use lc_token::Token;
-use lc_trunc::KnownClean;
+use lc_token::{KnownClean, Token};
 use std::marker::Model;
 
 /// A node's log: its flusher, its device, how many records it has published, and what is known clean of the segments.

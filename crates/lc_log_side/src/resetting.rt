@@ -2,9 +2,9 @@
 ghost use Rattle.std.specs.Prelude.{◌≡◌, ◌↔◌, ℕ, [], false, Err, IfOk, IfErr, MatchBool, OnOk};
 ghost use Rattle.lc_model.specs.Merge.{IsLeastPair};
 ghost use Rattle.lc_stage.specs.Seats.{IsFlusherOf, IsSeatOf};
-ghost use Rattle.lc_trunc.specs.KnownClean.{known as known_of};
-ghost use Rattle.lc_trunc.specs.Reset.{IsAbove};
-ghost use Rattle.lc_log_side.specs.Ended.{HasRoom};
+ghost use Rattle.lc_token.specs.KnownClean.{known as known_of};
+ghost use Rattle.lc_token.specs.Reset.{IsAbove};
+ghost use Rattle.lc_log_side.specs.EndedRoom.{HasRoom};
 ghost use Rattle.lc_log_side.specs.Halting.{HasFaults};
 ghost use Rattle.lc_log_side.specs.Published.{published};
 ghost use Rattle.lc_log_side.specs.Resets.{Begins, CanReset, Empties, FailsToBegin, IsReady, IsSealed, IsSpent};
@@ -16,7 +16,7 @@ use crate::log_state::LogState;
 use lc_disk::Area;
 use lc_segments::NodeFault;
 use lc_stage::{Stage, StageFault};
-use lc_trunc::may_reset_kept;
+use lc_token::may_reset_kept;
 use std::mem;
 
 // No round comes after it.

@@ -3,7 +3,7 @@ ghost use Rattle.std.specs.Prelude.{◌≡◌, [], All, Err, IfErr, IfOk};
 ghost use Rattle.std.specs.VecDeque.{deque_capacity};
 ghost use Rattle.lc_stage.specs.Seats.{IsFlusherOf, IsSeatOf};
 ghost use Rattle.lc_segments.specs.Each.{Each};
-ghost use Rattle.lc_log_side.specs.Ended.{HasRoom};
+ghost use Rattle.lc_log_side.specs.EndedRoom.{HasRoom};
 ghost use Rattle.lc_log_side.specs.Halting.{HasFaults};
 ghost use Rattle.lc_log_side.specs.Truncates.{HasPagesIn, IsSameHeld};
 ghost use Rattle.lc_log_side.specs.Truncates.{IsUntruncated, IsUntruncatedInRoom};

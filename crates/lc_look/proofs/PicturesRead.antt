@@ -9,8 +9,8 @@ use Rattle.lc_disk.specs.declared.area.Area.{Ghosts}
 use Rattle.lc_record.specs.declared.geometry.Geometry.{Geometry}
 use Rattle.lc_record.proofs.ListLemmas.{slice_get_some as get-some, slice_get-map_some as get-map}
 use Rattle.lc_model.specs.Merge.{StoreText}
-use Rattle.lc_picture.specs.Picture.{picture_text}
-use Rattle.lc_picture.specs.declared.store_picture.StorePicture.{StorePicture}
+use Rattle.lc_look.specs.Picture.{picture_text}
+use Rattle.lc_look.specs.declared.store_picture.StorePicture.{StorePicture}
 use Rattle.lc_recover.specs.Fault.{IsRefusal}
 use Rattle.lc_recover.specs.Forecast.{Foretold, IsForecast, sequence_of}
 use Rattle.lc_recover.specs.Reads.{area_len, AreHonest, AreLeftAs, HaveLengths, IsLeftAs, store_of}

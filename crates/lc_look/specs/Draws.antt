@@ -10,11 +10,11 @@ use Rattle.lc_model.specs.Merge.{MergesTo, StoreText}
 use Rattle.lc_recover.specs.Forecast.{IsPageBehind}
 use Rattle.lc_recover.specs.Reads.{AreHonest, HaveLengths, area_len, store_of}
 use Rattle.lc_recover.specs.declared.fault.RecoverFault.{RecoverFault}
-use Rattle.lc_picture.specs.Picture.{picture_text}
-use Rattle.lc_picture.specs.declared.log_bar.LogBar.{LogBar}
-use Rattle.lc_picture.specs.declared.page_cell.PageCell.{PageCell}
-use Rattle.lc_picture.specs.declared.segment_field.SegmentField.{SegmentField}
-use Rattle.lc_picture.specs.declared.store_picture.StorePicture.{StorePicture}
+use Rattle.lc_look.specs.Picture.{picture_text}
+use Rattle.lc_look.specs.declared.log_bar.LogBar.{LogBar}
+use Rattle.lc_look.specs.declared.page_cell.PageCell.{PageCell}
+use Rattle.lc_look.specs.declared.segment_field.SegmentField.{SegmentField}
+use Rattle.lc_look.specs.declared.store_picture.StorePicture.{StorePicture}
 use Rattle.lc_look.specs.Dumps.{StopsDump}
 use Rattle.lc_look.specs.Printed.{Stops, Adds}
 use Rattle.lc_look.specs.Recovers.{stop_status, stop_text}

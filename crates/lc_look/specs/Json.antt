@@ -7,7 +7,7 @@ use Rattle.lc_record.specs.declared.geometry.Geometry.{Geometry}
 use Rattle.lc_record.specs.declared.record.Record.{Record}
 use Rattle.lc_log.specs.LogText.{joined}
 use Rattle.lc_model.specs.Merge.{MergesTo, StoreText}
-use Rattle.lc_picture.specs.Picture.{pieces}
+use Rattle.lc_look.specs.Picture.{pieces}
 use Rattle.lc_recover.specs.Fault.{IsRefusal}
 use Rattle.lc_recover.specs.Reads.{AreHonest, HaveLengths, store_of}
 use Rattle.lc_recover.specs.Recovery.{HasPageToWrite}

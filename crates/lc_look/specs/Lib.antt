@@ -6,3 +6,5 @@ pub mod Checks
 pub mod Json
 pub mod Dumps
 pub mod Draws
+pub mod Layout
+pub mod Picture

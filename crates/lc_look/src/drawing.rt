@@ -12,10 +12,10 @@ ghost use Rattle.lc_look.specs.Refused.{RefusesLengths};
 
 use crate::recovery::{ended, status_of, write_stop};
 use crate::status::DONE;
+use crate::{LogBar, PageCell, SegmentField, StorePicture, write_picture};
 use lc_disk::Area;
 use lc_log::{Walk, walk, words_in};
 use lc_page::read_page;
-use lc_picture::{LogBar, PageCell, SegmentField, StorePicture, write_picture};
 use lc_record::Geometry;
 use lc_recover::{Forecast, RecoverFault, survey_areas};
 use lc_text::WriteFault;

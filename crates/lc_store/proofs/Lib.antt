@@ -1,0 +1,2 @@
+pub mod OneNode
+pub mod Refused

@@ -1,2 +1,4 @@
 pub mod Running
 pub mod Opening
+pub mod LeftBy
+pub mod Refusals

@@ -6,7 +6,7 @@ use Rattle.std.proofs.lemmas.Bool.Decides.{nat_tests}
 use Rattle.lc_record.specs.declared.part.Part.{Part}
 use Rattle.lc_record.proofs.ListLemmas.{none_from_is_some as none_is}
 use Rattle.lc_token.specs.declared.received.Received.TheVariants.{Applied}
-use Rattle.lc_token.specs.Backlog.{Backlog, Ascends, AreDue, HandsOutKept, IsNext, PassesOn, TakesNext, above, advanced, counted, due_behind, due_of, forgetting, is_known, is_next, keeping, led_by, numbered, put, rest_of, run_of, without}
+use Rattle.lc_token.specs.Backlog.{Backlog, Ascends, AreDue, HandsOutKept, IsNext, PassesOn, TakesNext, parts_above, advanced, counted, due_behind, due_of, forgetting, is_known, is_next, keeping, led_by, numbered, put, rest_of, run_of, without}
 
 -- The part with a number
 
@@ -120,17 +120,17 @@ ascends_over a (p ∷ ps) up not = elim (cases_eq p.seq (a + 1)) [
   | inr other ↦ (omega (arith, up.0, other), up.1)
 ]
 
-above_here : (n : ℕ) (p : Part) (ps : List Part) → n < p.seq → above n (p ∷ ps) ≡ p ∷ above n ps
-above_here n p ps lt = cond-true (ltb n p.seq) (p ∷ above n ps) (above n ps) (lt-ltb n p.seq lt)
+above_here : (n : ℕ) (p : Part) (ps : List Part) → n < p.seq → parts_above n (p ∷ ps) ≡ p ∷ parts_above n ps
+above_here n p ps lt = cond-true (ltb n p.seq) (p ∷ parts_above n ps) (parts_above n ps) (lt-ltb n p.seq lt)
 
-pub above_later : (n : ℕ) (p : Part) (ps : List Part) → p.seq ≤ n → above n (p ∷ ps) ≡ above n ps
-above_later n p ps le = cond-false (ltb n p.seq) (p ∷ above n ps) (above n ps) (le-ltb n p.seq le)
+pub above_later : (n : ℕ) (p : Part) (ps : List Part) → p.seq ≤ n → parts_above n (p ∷ ps) ≡ parts_above n ps
+above_later n p ps le = cond-false (ltb n p.seq) (p ∷ parts_above n ps) (parts_above n ps) (le-ltb n p.seq le)
 
-pub above_all : (low n : ℕ) (ps : List Part) → Ascends low ps → n ≤ low → above n ps ≡ ps
+pub above_all : (low n : ℕ) (ps : List Part) → Ascends low ps → n ≤ low → parts_above n ps ≡ ps
 above_all low n [] up le = refl
 above_all low n (p ∷ ps) up le = above_here n p ps (omega (arith, up.0)) ∙ ap (λ (xs : List Part). p ∷ xs) (above_all p.seq n ps up.1 (omega (arith, up.0)))
 
-pub length_above : (n : ℕ) (ps : List Part) → length (above n ps) ≤ length ps
+pub length_above : (n : ℕ) (ps : List Part) → length (parts_above n ps) ≤ length ps
 length_above n [] = omega arith
 length_above n (p ∷ ps) = elim (cases_lt n p.seq) [
   | inl over ↦ let e = ap length (above_here n p ps over) in let few = length_above n ps in omega arith
@@ -138,12 +138,12 @@ length_above n (p ∷ ps) = elim (cases_lt n p.seq) [
 ]
 
 -- the parts above a number are found as before
-pub numbered_above : (m n : ℕ) (ps : List Part) → m < n → numbered n (above m ps) ≡ numbered n ps
+pub numbered_above : (m n : ℕ) (ps : List Part) → m < n → numbered n (parts_above m ps) ≡ numbered n ps
 numbered_above m n [] lt = refl
 numbered_above m n (p ∷ ps) lt = elim (cases_lt m p.seq) [
   | inl over ↦ elim (cases_eq p.seq n) [
-    | inl same ↦ ap (numbered n) (above_here m p ps over) ∙ (numbered_here n p (above m ps) same ∙ sym (numbered_here n p ps same))
-    | inr other ↦ ap (numbered n) (above_here m p ps over) ∙ (numbered_later n p (above m ps) other ∙ (numbered_above m n ps lt ∙ sym (numbered_later n p ps other)))
+    | inl same ↦ ap (numbered n) (above_here m p ps over) ∙ (numbered_here n p (parts_above m ps) same ∙ sym (numbered_here n p ps same))
+    | inr other ↦ ap (numbered n) (above_here m p ps over) ∙ (numbered_later n p (parts_above m ps) other ∙ (numbered_above m n ps lt ∙ sym (numbered_later n p ps other)))
   ]
   | inr under ↦ ap (numbered n) (above_later m p ps under) ∙ (numbered_above m n ps lt ∙ sym (numbered_later n p ps (λ e. omega (arith, e, under, lt))))
 ]
@@ -186,14 +186,14 @@ run_due a (p ∷ ps) up = elim (cases_eq p.seq (a + 1)) [
   | inr other ↦ subst (AreDue a (p ∷ ps)) (sym (run_ends a p ps other)) (numbered_later (a + 1) p ps other ∙ none_below p.seq (a + 1) ps up.1 (omega (arith, up.0)))
 ]
 
-rest_above : (a : ℕ) (ps : List Part) → Ascends a ps → rest_of a ps ≡ above (a + length (run_of a ps)) ps
+rest_above : (a : ℕ) (ps : List Part) → Ascends a ps → rest_of a ps ≡ parts_above (a + length (run_of a ps)) ps
 rest_above a [] up = refl
 rest_above a (p ∷ ps) up = elim (cases_eq p.seq (a + 1)) [
   | inl same ↦
       let long : length (run_of a (p ∷ ps)) ≡ suc (length (run_of (a + 1) ps)) = ap length (run_here a p ps same) in
       let end : a + 1 + length (run_of (a + 1) ps) ≡ a + length (run_of a (p ∷ ps)) = omega arith in
       rest_here a p ps same ∙ (rest_above (a + 1) ps (ascends_to p.seq (a + 1) ps same up.1)
-      ∙ (ap (λ (n : ℕ). above n ps) end ∙ sym (above_later (a + length (run_of a (p ∷ ps))) p ps (omega arith))))
+      ∙ (ap (λ (n : ℕ). parts_above n ps) end ∙ sym (above_later (a + length (run_of a (p ∷ ps))) p ps (omega arith))))
   | inr other ↦
       let long : length (run_of a (p ∷ ps)) ≡ 0 = ap length (run_ends a p ps other) in
       rest_ends a p ps other ∙ sym (above_all a (a + length (run_of a (p ∷ ps))) (p ∷ ps) up (omega arith))
@@ -225,7 +225,7 @@ advanced_is old p up e none =
     let long : length (due_behind old.applied (p ∷ old.kept)) ≡ suc (length (run_of p.seq old.kept)) = ap length due in
     let end : p.seq + length (run_of p.seq old.kept) ≡ old.applied + length (due_behind old.applied (p ∷ old.kept)) = omega arith in
     let all : (old.due ++ p ∷ []) ++ run_of p.seq old.kept ≡ old.due ++ due_behind old.applied (p ∷ old.kept) = append_assoc old.due (p ∷ []) (run_of p.seq old.kept) ∙ ap (λ (xs : List Part). old.due ++ xs) (sym due) in
-    let rest : rest_of p.seq old.kept ≡ above (old.applied + length (due_behind old.applied (p ∷ old.kept))) old.kept = rest_above p.seq old.kept beyond ∙ ap (λ (n : ℕ). above n old.kept) end in
+    let rest : rest_of p.seq old.kept ≡ parts_above (old.applied + length (due_behind old.applied (p ∷ old.kept))) old.kept = rest_above p.seq old.kept beyond ∙ ap (λ (n : ℕ). parts_above n old.kept) end in
     cc
 
 -- A part put in its place
@@ -313,14 +313,14 @@ unknown b n e =
     (leb-false n b.applied parts.0, none_is (numbered n b.kept) parts.1)
 
 -- what the node's own number leaves of what is kept
-pub own_keeps : (a n : ℕ) (old new : List Part) (taken : Option Part) → n ≡ a + 1 → Ascends a old → TakesNext a old taken new → (Ascends n new) × (new ≡ above n old)
+pub own_keeps : (a n : ℕ) (old new : List Part) (taken : Option Part) → n ≡ a + 1 → Ascends a old → TakesNext a old taken new → (Ascends n new) × (new ≡ parts_above n old)
 own_keeps a n old new None e up takes =
     let over : Ascends n old = ascends_to (a + 1) n old (sym e) (ascends_over a old up takes.0) in
     (subst (Ascends n) (sym takes.1) over, takes.1 ∙ sym (above_all n n old over (omega arith)))
 own_keeps a n old new (Some p) e up takes =
     let all : Ascends a (p ∷ new) = subst (Ascends a) takes.0 up in
     let over : Ascends n new = ascends_to p.seq n new (takes.1 ∙ sym e) all.1 in
-    (over, sym (ap (above n) takes.0 ∙ (above_later n p new (omega (arith, takes.1, e)) ∙ above_all n n new over (omega arith))))
+    (over, sym (ap (parts_above n) takes.0 ∙ (above_later n p new (omega (arith, takes.1, e)) ∙ above_all n n new over (omega arith))))
 
 -- what is kept ascends once a part is put there, or not for want of memory
 pub keep_ascends : (b : Backlog) (p : Part) (done : Result (Unit {0}) AllocError) (new : List Part) → Ascends b.applied b.kept → is_known b p.seq ≡ false → OnOk done (new ≡ put p b.kept) → OnErr done (new ≡ b.kept) → Ascends b.applied new
@@ -347,7 +347,7 @@ passes_on old number h part same =
     let due : due_behind old.applied (part ∷ old.kept) ≡ part ∷ [] = ap (λ (ps : List Part). due_behind old.applied (part ∷ ps)) h.none_kept ∙ due_next old.applied part [] next tt in
     let between : advanced old (due_behind old.applied (part ∷ old.kept)) ≡ record (counted old number) { due = part ∷ old.due } =
     ap (advanced old) due
-    ∙ ap (λ (n : ℕ). record old { applied = n; due = old.due ++ part ∷ []; kept = above n old.kept }) (sym h.next)
+    ∙ ap (λ (n : ℕ). record old { applied = n; due = old.due ++ part ∷ []; kept = parts_above n old.kept }) (sym h.next)
     ∙ ap (λ (ps : List Part). record (counted old number) { due = ps }) (ap (λ (ps : List Part). ps ++ part ∷ []) h.none_due ∙ sym (ap (λ (ps : List Part). part ∷ ps) h.none_due)) in (
       advanced old (due_behind old.applied (part ∷ old.kept)),
       (unknown_is, next, sym (ap (λ (b : Backlog). b.applied) between), refl),

@@ -2,3 +2,9 @@ pub mod TokenLemmas
 pub mod BacklogLemmas
 pub mod KeptLemmas
 pub mod CallLemmas
+pub mod DirtyLemmas
+pub mod KnownLemmas
+pub mod LeastLemmas
+pub mod ResetLemmas
+pub mod CleanLemmas
+pub mod NumberLemmas

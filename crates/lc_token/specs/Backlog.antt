@@ -47,8 +47,8 @@ unfoldable pub due_behind : ℕ → List Part → List Part
 due_behind applied parts = due_of (length parts) applied parts
 
 -- the parts above a number
-abbrev pub above : ℕ → List Part → List Part
-above number parts = filter (λ part. nat_lt number part.seq) parts
+abbrev pub parts_above : ℕ → List Part → List Part
+parts_above number parts = filter (λ part. nat_lt number part.seq) parts
 
 -- with one more, in its place by number
 abbrev pub put : Part → List Part → List Part
@@ -94,7 +94,7 @@ abbrev pub advanced : Backlog → List Part → Backlog
 advanced old run = record old {
   applied = old.applied + length run;
   due = old.due ++ run;
-  kept = above (old.applied + length run) old.kept;
+  kept = parts_above (old.applied + length run) old.kept;
 }
 
 -- one more part is kept
@@ -107,7 +107,7 @@ forgetting old number = record old { kept = without number old.kept }
 
 -- all up to this number are applied, the last of them by the node itself
 abbrev pub counted : Backlog → ℕ → Backlog
-counted old number = record old { applied = number; kept = above number old.kept }
+counted old number = record old { applied = number; kept = parts_above number old.kept }
 
 -- what a receipt of a part answers, and what it leaves
 abbrev pub Receives : Part → Backlog → Received → Backlog → Type 0

@@ -8,3 +8,7 @@ pub mod Token
 pub mod Standing
 pub mod TokenPlace
 pub mod Calls
+pub mod Dirty
+pub mod KnownClean
+pub mod Reset
+pub mod Clean

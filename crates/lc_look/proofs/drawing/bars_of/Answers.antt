@@ -2,7 +2,7 @@ use Rattle.std.proofs.Common.{ℕ, [], List, get_or, subst, sym, ap, ◌∙◌, 
 use Rattle.std.proofs.lemmas.List.{get_or-map}
 use Rattle.std.specs.Global.{Vec}
 use Rattle.lc_record.specs.Lists.{items_of}
-use Rattle.lc_picture.specs.declared.log_bar.LogBar.{LogBar}
+use Rattle.lc_look.specs.declared.log_bar.LogBar.{LogBar}
 use Rattle.lc_look.specs.Draws.{AreEach, IsBarOf}
 use Rattle.lc_look.proofs.PicturesRead.{each-more}
 use Rattle.lc_look.proofs.drawing.bars_of.Goals as goal

@@ -1,6 +1,6 @@
 use Rattle.std.proofs.Common.{ℕ, ◌∙◌, ap, sym, subst, refl, inl, inr}
 use Rattle.std.specs.Io.KnownBytes.{Appends}
-use Rattle.lc_picture.specs.Picture.{picture_text}
+use Rattle.lc_look.specs.Picture.{picture_text}
 use Rattle.lc_look.specs.Draws.{DrawsAreas, TellsDraw}
 use Rattle.lc_look.specs.Recovers.{stop_status, stop_text}
 use Rattle.lc_look.specs.Printed.{Adds}

@@ -1,5 +1,5 @@
 use Rattle.std.proofs.Common.{List, ◌+◌, subst, sym}
-use Rattle.lc_picture.specs.declared.page_cell.PageCell.{PageCell}
+use Rattle.lc_look.specs.declared.page_cell.PageCell.{PageCell}
 use Rattle.lc_look.specs.Draws.{AreEach, IsCellOf}
 use Rattle.lc_look.proofs.PicturesRead.{each-more}
 use Rattle.lc_look.proofs.drawing.field_of.Goals as goal

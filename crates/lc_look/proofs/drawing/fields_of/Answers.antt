@@ -3,7 +3,7 @@ use Rattle.std.proofs.lemmas.List.{get_or-map, length-map}
 use Rattle.std.specs.Global.{Vec}
 use Rattle.lc_record.specs.Lists.{items_of}
 use Rattle.lc_record.specs.declared.geometry.Geometry.{Geometry}
-use Rattle.lc_picture.specs.declared.segment_field.SegmentField.{SegmentField}
+use Rattle.lc_look.specs.declared.segment_field.SegmentField.{SegmentField}
 use Rattle.lc_recover.specs.Forecast.{sequence_of}
 use Rattle.lc_look.specs.Draws.{AreEach, HaveBytes, IsFieldOf}
 use Rattle.lc_look.proofs.PicturesRead.{each-more, segment-there}

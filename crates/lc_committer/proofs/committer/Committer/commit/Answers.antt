@@ -4,7 +4,7 @@ use Rattle.lc_stage.specs.declared.stage_view.StageView.{StageView}
 use Rattle.lc_node.specs.MakingRoom.{TransactsInRoom}
 use Rattle.lc_node.specs.declared.node.Node.{Node}
 use Rattle.lc_committer.specs.declared.committing.TheConstants.{TRIES}
-use Rattle.lc_committer.proofs.Keeping.{transacting}
+use Rattle.lc_committer.proofs.KeptReceipts.{transacting}
 use Rattle.lc_committer.proofs.committer.Committer.commit.Goals as goal
 
 pub returns-clause-transacts : goal.returns-clause-transacts

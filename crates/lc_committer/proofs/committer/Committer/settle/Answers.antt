@@ -3,7 +3,7 @@ use Rattle.std.specs.Prelude.{IfErr}
 use Rattle.lc_stage.specs.Seats.{commit_view}
 use Rattle.lc_stage.specs.declared.stage_view.StageView.{StageView}
 use Rattle.lc_log_side.specs.Receipts.{IsOfDevice, Learns, Receives}
-use Rattle.lc_committer.proofs.Keeping.{settling}
+use Rattle.lc_committer.proofs.KeptReceipts.{settling}
 use Rattle.lc_committer.proofs.committer.Committer.settle.Goals as goal
 
 pub returns-clause-settled : goal.returns-clause-settled

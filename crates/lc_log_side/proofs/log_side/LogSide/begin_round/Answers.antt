@@ -3,14 +3,14 @@ use Rattle.lc_stage.specs.declared.stage_view.StageView.{StageView}
 use Rattle.lc_stage.specs.Staging.{AreRecords}
 use Rattle.lc_stage.specs.Seats.{flush_view}
 use Rattle.std.proofs.lemmas.List.Elements.{All-append}
-use Rattle.lc_trunc.specs.KnownClean.{known}
-use Rattle.lc_trunc.specs.Reset.{AreKnown}
+use Rattle.lc_token.specs.KnownClean.{known}
+use Rattle.lc_token.specs.Reset.{AreKnown}
 use Rattle.lc_log_side.proofs.Knowing.{all_alone}
 use Rattle.lc_log_side.proofs.FlushKeeps.{at_rest, reset_fails}
 use Rattle.lc_log_side.proofs.EndedRecords.{AreOf, records_known, spelled}
 use Rattle.lc_log_side.proofs.LeftWords.{left-reset, published-same}
-use Rattle.lc_ended.specs.Ended.{EndedWords}
-use Rattle.lc_log_side.specs.Ended.{HasRoom}
+use Rattle.lc_log_side.specs.Ended.{EndedWords}
+use Rattle.lc_log_side.specs.EndedRoom.{HasRoom}
 use Rattle.lc_log_side.specs.Published.{published}
 use Rattle.lc_log_side.proofs.Rounds.{Reopened, reopened, to_clear, no_records}
 use Rattle.lc_log_side.specs.LogView.{LogView}

@@ -4,7 +4,7 @@ use Rattle.lc_log_side.specs.LogView.{LogView}
 use Rattle.lc_log_side.specs.Resets.{Empties, IsUnemptied}
 use Rattle.lc_log_side.specs.Truncates.{IsUntruncated, SeesSides, Truncates}
 use Rattle.lc_segments.specs.declared.held.HeldSide.{HeldSide}
-use Rattle.lc_log_side.specs.Ended.{HasRoom}
+use Rattle.lc_log_side.specs.EndedRoom.{HasRoom}
 use Rattle.lc_log_side.proofs.PagesWritten.{room_behind}
 use Rattle.lc_log_side.proofs.log_side.LogSide.empty.Goals as goal
 

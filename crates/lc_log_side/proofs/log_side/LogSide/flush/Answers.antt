@@ -4,8 +4,8 @@ use Rattle.lc_stage.specs.Seats.{flush_view}
 use Rattle.lc_stage.specs.Staging.{AreRecords}
 use Rattle.lc_stage.specs.Publishing.{HoldsTaken}
 use Rattle.lc_stage.proofs.Flushed.{flush_holds}
-use Rattle.lc_trunc.specs.KnownClean.{known}
-use Rattle.lc_trunc.specs.Reset.{AreKnown}
+use Rattle.lc_token.specs.KnownClean.{known}
+use Rattle.lc_token.specs.Reset.{AreKnown}
 use Rattle.std.proofs.lemmas.List.{append-nil, nil_from_length as no_words}
 use Rattle.lc_log_side.specs.Among.{AreInFront}
 use Rattle.lc_log_side.specs.Flushes.{Flushes}

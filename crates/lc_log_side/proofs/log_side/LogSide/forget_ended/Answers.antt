@@ -1,7 +1,7 @@
 use Rattle.std.proofs.Common.{◌≡◌, ℕ, ◌+◌, ◌*◌, ◌≤◌, List, [], drop, length, refl, sym, ap, subst, ◌∙◌, arith}
 use Rattle.std.proofs.lemmas.List.{drop_all}
-use Rattle.lc_ended.specs.Left.{IsLeft}
-use Rattle.lc_ended.proofs.Leaving.{left-all}
+use Rattle.lc_log_side.specs.Left.{IsLeft}
+use Rattle.lc_log_side.proofs.Leaving.{left-all}
 use Rattle.lc_log_side.specs.LogSide.{log_view}
 use Rattle.lc_log_side.specs.LogView.{LogView}
 use Rattle.lc_log_side.specs.Trimming.{ForgetsEnded}

@@ -4,10 +4,10 @@ use Rattle.lc_stage.specs.Publishing.{HoldsTaken}
 use Rattle.lc_stage.specs.Seats.{commit_view, flush_view}
 use Rattle.lc_stage.specs.Staging.{Agree, AreRecords, end_of}
 use Rattle.lc_stage.specs.declared.stage_view.StageView.{StageView}
-use Rattle.lc_trunc.specs.KnownClean.{known as known_of}
-use Rattle.lc_trunc.specs.Reset.{AreKnown}
+use Rattle.lc_token.specs.KnownClean.{known as known_of}
+use Rattle.lc_token.specs.Reset.{AreKnown}
 use Rattle.lc_rest.specs.declared.node_part.NodePart.{NodePart}
-use Rattle.lc_ended.specs.Left.{IsLeft}
+use Rattle.lc_log_side.specs.Left.{IsLeft}
 use Rattle.lc_log_side.specs.LeftBy.{AreAllStaged, LeavesLog}
 use Rattle.lc_log_side.specs.LogSide.{area_of, is_halted, log_view}
 use Rattle.lc_log_side.specs.LogView.{LogView}

@@ -1,6 +1,6 @@
 use Rattle.std.proofs.Common.{rules, ℕ, List, ap, subst, refl, inr, arith}
-use Rattle.lc_trunc.specs.KnownClean.{known as known_of}
-use Rattle.lc_trunc.specs.Reset.{AreKnown, IsAbove}
+use Rattle.lc_token.specs.KnownClean.{known as known_of}
+use Rattle.lc_token.specs.Reset.{AreKnown, IsAbove}
 use Rattle.lc_model.specs.Merge.{IsLeastPair}
 use Rattle.lc_log_side.specs.LogSide.{is_halted}
 use Rattle.lc_log_side.specs.LogView.{LogView}

@@ -3,11 +3,11 @@ use Rattle.std.specs.List.{concat}
 use Rattle.lc_stage.specs.declared.stage_view.StageView.{StageView}
 use Rattle.lc_stage.specs.Staging.{flusher, open_count, AreRecords}
 use Rattle.lc_stage.specs.Seats.{flush_view}
-use Rattle.lc_trunc.specs.KnownClean.{known}
-use Rattle.lc_trunc.specs.Reset.{AreKnown}
-use Rattle.lc_ended.specs.Ended.{EndedWords}
-use Rattle.lc_ended.specs.Left.{IsLeft}
-use Rattle.lc_ended.proofs.Leaving.{left-none}
+use Rattle.lc_token.specs.KnownClean.{known}
+use Rattle.lc_token.specs.Reset.{AreKnown}
+use Rattle.lc_log_side.specs.Ended.{EndedWords}
+use Rattle.lc_log_side.specs.Left.{IsLeft}
+use Rattle.lc_log_side.proofs.Leaving.{left-none}
 use Rattle.lc_log_side.specs.Published.{records_of}
 use Rattle.lc_log_side.proofs.NoRecords.{none_counted, none_ended}
 use Rattle.lc_log_side.proofs.Rounds.{no_records}

@@ -1,6 +1,6 @@
 use Rattle.lc_stage.specs.Seats.{flush_view}
 use Rattle.lc_log_side.proofs.Knowing.{all-seen, sees-grows}
-use Rattle.lc_ended.proofs.Leaving.{left-sees}
+use Rattle.lc_log_side.proofs.Leaving.{left-sees}
 use Rattle.lc_log_side.proofs.log_side.LogSide.see.Goals as goal
 
 pub invariant_of-self : goal.invariant_of-self

@@ -1,6 +1,6 @@
 use Rattle.std.proofs.Common.{refl, subst, arith}
 use Rattle.lc_stage.specs.Seats.{flush_view}
-use Rattle.lc_ended.proofs.Leaving.{left-trims}
+use Rattle.lc_log_side.proofs.Leaving.{left-trims}
 use Rattle.lc_log_side.specs.LogSide.{log_view}
 use Rattle.lc_log_side.specs.LogView.{LogView}
 use Rattle.lc_log_side.specs.Trimming.{TrimsLog}

@@ -1,2 +1,0 @@
-pub mod OneNode
-pub mod Refused

@@ -1,2 +1,0 @@
-pub mod LeftBy
-pub mod Refusals

@@ -1,6 +1,0 @@
-use Rattle.lc_picture.specs.Picture.{edge_text}
-use Rattle.lc_picture.proofs.log_bar.write_edge.Goals as goal
-
-pub returns : goal.returns
-unfolding edge_text
-returns g c = c.write.ensures.bytes

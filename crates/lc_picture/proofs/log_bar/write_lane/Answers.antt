@@ -1,6 +1,0 @@
-use Rattle.lc_picture.specs.Picture.{lane_text}
-use Rattle.lc_picture.proofs.log_bar.write_lane.Goals as goal
-
-pub returns : goal.returns
-unfolding lane_text
-returns g c = c.write.ensures.bytes

@@ -1,7 +1,0 @@
-use Rattle.std.proofs.Common.{take}
-use Rattle.std.specs.Io.KnownBytes.{Appends}
-use Rattle.lc_picture.specs.Picture.{cells_text}
-use Rattle.lc_picture.proofs.segment_field.write_cells.Given as goal
-
-abbrev pub invariant-loop-cell : goal.invariant-loop-cell
-invariant-loop-cell g l = Appends (g.W.Write.contents l.fn.writer) (g.W.Write.contents l.writer) (cells_text (take l.cell-index l.cells))

@@ -1,6 +1,0 @@
-use Rattle.lc_picture.specs.Picture.{field_head_text}
-use Rattle.lc_picture.proofs.segment_field.write_field_head.Goals as goal
-
-pub returns : goal.returns
-unfolding field_head_text
-returns g c = c.write.ensures.bytes

@@ -1,6 +1,0 @@
-use Rattle.lc_picture.specs.Picture.{head_text}
-use Rattle.lc_picture.proofs.store_picture.write_head.Goals as goal
-
-pub returns : goal.returns
-unfolding head_text
-returns g c = c.write.ensures.bytes

@@ -1,2 +1,0 @@
-pub mod Acquiring
-pub mod Round

@@ -1,0 +1,34 @@
+use Rattle.std.proofs.Common.{inl, inr, sym, subst, arith}
+use Rattle.std.specs.Prelude.{IfErr}
+use Rattle.std.proofs.lemmas.Result.{err_from_is_err_and}
+use Rattle.lc_log_side.proofs.Refused.{handed_on}
+use Rattle.lc_store.specs.Refusals.{StopsAdoption, StopsCluster}
+use Rattle.lc_store.proofs.Refused.{of_adopted}
+use Rattle.lc_store.proofs.adoption.into_world.Goals as goal
+
+pub returns-in_err-parts-clause-which : goal.returns-in_err-parts-clause-which
+returns-in_err-parts-clause-which g c =
+    handed_on c.from_residual.result c.in_err-parts.field-0.0 (StopsCluster g.D.Area c.args.cluster.geometry) c.from_residual.ensures.1 (inl c.in_err-parts.ensures.refused)
+
+pub returns-in_err-adopt-clause-which : goal.returns-in_err-adopt-clause-which
+returns-in_err-adopt-clause-which g c =
+    let p = err_from_is_err_and c.from_residual-in_err-adopt.result c.from_residual-in_err-adopt.ensures.1 in
+    let its = c.in_err-adopt.ensures in
+    subst (λ r. IfErr r (StopsCluster g.D.Area c.args.cluster.geometry)) (sym p.1) (inr (record {
+      parts = c.in_ok-parts.parts;
+      geometry = c.in_ok-parts.ensures.geometry;
+      kept = c.in_ok-parts.ensures.kept;
+      stops = subst (StopsAdoption g.D.Area c.in_ok-parts.parts) (sym p.2) (of_adopted g.D.Area c.in_ok-parts.parts c.in_err-adopt.field-0.0 its.within its.mismatch its.device);
+    }))
+
+pub returns-clause-adopted : goal.returns-clause-adopted
+returns-clause-adopted g c =
+    let cluster = c.args.cluster in
+    record {
+      parts = c.in_ok-parts.parts;
+      geometry = c.in_ok-parts.ensures.geometry;
+      kept = c.in_ok-parts.ensures.kept;
+      each = omega (arith, c.requires.own.count, cluster.members.ok.0, cluster.all_nodes);
+      adoption = c.in_ok-adopt.ensures.adopted;
+      received = c.in_ok-parts.ensures.received;
+    }

@@ -1,5 +1,0 @@
-use Rattle.lc_trunc.proofs.DirtyLemmas.{DirtyBelow}
-use Rattle.lc_trunc.proofs.dirty.dirty_pages.Given as goal
-
-abbrev pub invariant-loop-place : goal.invariant-loop-place
-invariant-loop-place l = DirtyBelow l.pages l.place l.numbers.items

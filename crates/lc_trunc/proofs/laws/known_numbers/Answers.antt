@@ -1,5 +1,0 @@
-use Rattle.lc_trunc.proofs.ResetLemmas.{numbers_known}
-use Rattle.lc_trunc.proofs.laws.known_numbers.Goals as goal
-
-pub returns : goal.returns
-returns c = λ words known_of none. numbers_known known_of words none

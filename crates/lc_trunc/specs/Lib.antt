@@ -1,4 +1,0 @@
-pub mod Dirty
-pub mod KnownClean
-pub mod Reset
-pub mod Clean
