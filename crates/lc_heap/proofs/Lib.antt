@@ -1,0 +1,10 @@
+mod Blocks
+mod Fronts
+mod Growth
+mod Heads
+mod Numbers
+mod Opened
+mod Reading
+mod Seeking
+mod Tallies
+mod Walks
