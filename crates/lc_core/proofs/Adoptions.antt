@@ -16,7 +16,7 @@ use Rattle.lc_rest.specs.declared.holder.Holder.TheVariants.{Here, Left}
 use Rattle.lc_token.specs.Backlog.{fresh}
 use Rattle.lc_token.specs.Standing.{Standing}
 use Rattle.lc_token.specs.declared.token.Token.{Token}
-use Rattle.lc_trunc.specs.KnownClean.{known as known_of}
+use Rattle.lc_token.specs.KnownClean.{known as known_of}
 use Rattle.lc_core.specs.Adopting.{IsAdopted, IsAdoptedArea, IsAdoptedNode, IsAdoptedSlot, IsAdoptedToken, IsAdoptedUp}
 use Rattle.lc_core.specs.Devices.{HonestLogs}
 use Rattle.lc_journal.specs.Log.{Stands, area_of, is_idle}

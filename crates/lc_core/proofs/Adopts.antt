@@ -24,7 +24,7 @@ use Rattle.lc_model.specs.State.{At, State}
 use Rattle.lc_model.specs.Stored.{Shows, records_of}
 use Rattle.lc_token.specs.Backlog.{Backlog, Ascends}
 use Rattle.lc_token.specs.declared.token.Token.{Token}
-use Rattle.lc_trunc.specs.Clean.{IsCleanTo, IsTouched, all_of, closed_of}
+use Rattle.lc_token.specs.Clean.{IsCleanTo, IsTouched, all_of, closed_of}
 use Rattle.lc_journal.specs.Coherent.{AreCoherent, entries_of as token_entries}
 use Rattle.lc_journal.specs.Journal.{FitsLog}
 use Rattle.lc_journal.specs.Log.{Stands, HasReset, is_failed}

@@ -24,7 +24,7 @@ use Rattle.lc_recover.specs.Recovery.{IsReadFrom, Recovering}
 use Rattle.lc_recover.proofs.SameArea.{same-functions}
 use Rattle.lc_desk.specs.Desk.{FitsDesk}
 use Rattle.lc_journal.specs.Journal.{FitsLog}
-use Rattle.lc_trunc.specs.KnownClean.{known as known_of}
+use Rattle.lc_token.specs.KnownClean.{known as known_of}
 use Rattle.lc_core.specs.Lives.{StillLives}
 use Rattle.lc_journal.specs.Log.{Stands, HasReset, IsLeft, area_of, is_failed}
 use Rattle.lc_core.specs.LogWords.{AreLogged, AreWordsOf, IsSameBut, ReadsLog, ReadsNone, log_area}

@@ -12,7 +12,7 @@ use Rattle.lc_model.specs.History.{Entry, value}
 use Rattle.lc_model.specs.Refusals.{is_at}
 use Rattle.lc_model.specs.Stored.{records_of, stable_number}
 use Rattle.lc_token.specs.declared.token.Token.{Token}
-use Rattle.lc_trunc.specs.KnownClean.{known as known_of}
+use Rattle.lc_token.specs.KnownClean.{known as known_of}
 use Rattle.lc_tx.specs.declared.image.Image.{Image as Picture}
 use Rattle.lc_rest.specs.Adopted.{history_of, transaction_of}
 use Rattle.lc_rest.specs.Found.{Found, machine_disks, machine_setting, machine_state}

@@ -15,7 +15,7 @@ use Rattle.lc_record.specs.declared.geometry.Geometry.{Geometry}
 use Rattle.lc_record.specs.declared.record.Record.{Record}
 use Rattle.lc_model.specs.Refusals.{is_at}
 use Rattle.lc_token.specs.declared.token.Token.{Token}
-use Rattle.lc_trunc.specs.KnownClean.{known as known_of}
+use Rattle.lc_token.specs.KnownClean.{known as known_of}
 use Rattle.lc_rest.specs.Found.{own_records}
 use Rattle.lc_rest.specs.Holder.{IsPlaced, node_of}
 use Rattle.lc_rest.specs.Passed.{Read, log_of}

@@ -17,7 +17,7 @@ use Rattle.lc_model.specs.Refusals.{is_at}
 use Rattle.lc_model.specs.Sound.{IsPlace}
 use Rattle.lc_model.specs.State.{Place, At}
 use Rattle.lc_token.specs.declared.token.Token.{Token}
-use Rattle.lc_trunc.specs.KnownClean.{known as known_of}
+use Rattle.lc_token.specs.KnownClean.{known as known_of}
 use Rattle.lc_rest.specs.Holder.{IsPlaced, node_of}
 use Rattle.lc_rest.specs.Merge.{no_record, number_at}
 use Rattle.lc_rest.specs.Passed.{Passes, Read, log_of}

@@ -16,7 +16,7 @@ use Rattle.lc_rest.specs.TokenTest.{count_on}
 use Rattle.lc_rest.specs.declared.holder.Holder.{Holder}
 use Rattle.lc_rest.specs.declared.holder.Holder.TheVariants.{Here, Left}
 use Rattle.lc_token.specs.declared.token.Token.{Token as TheToken}
-use Rattle.lc_trunc.specs.KnownClean.{known as known_of}
+use Rattle.lc_token.specs.KnownClean.{known as known_of}
 use Rattle.lc_rest.specs.AtRest.{AreMerged, AreReadAreas, Fails, HasPart, IsFirst, IsReadLog, IsReadOf, KeepsImages, KeepsOwn, KeepsToken, PassesAll}
 use Rattle.lc_core.specs.Built.{IsBuiltOf}
 use Rattle.lc_core.specs.Cluster.{IsBuilt, IsReadCluster, knowns_of}

@@ -9,7 +9,7 @@ use Rattle.lc_model.specs.State.{At, Travelling}
 use Rattle.lc_model.specs.Refusals.{is_at}
 use Rattle.lc_token.specs.Backlog.{fresh}
 use Rattle.lc_token.specs.declared.token.Token.{Token}
-use Rattle.lc_trunc.specs.KnownClean.{known as known_of}
+use Rattle.lc_token.specs.KnownClean.{known as known_of}
 use Rattle.lc_tx.specs.declared.holders.Holders.TheVariants.{Free as Unheld}
 use Rattle.lc_page.specs.Page.{page_in}
 use Rattle.lc_page.specs.PageWrite.{SettledIn}

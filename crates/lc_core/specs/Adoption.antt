@@ -8,7 +8,7 @@ use Rattle.lc_model.specs.Refusals.{is_at}
 use Rattle.lc_model.specs.State.{Up, Setting, State}
 use Rattle.lc_model.specs.Stored.{records_of, stable_number}
 use Rattle.lc_tx.specs.declared.image.Image.{Image as Picture}
-use Rattle.lc_trunc.specs.KnownClean.{known as known_of}
+use Rattle.lc_token.specs.KnownClean.{known as known_of}
 use Rattle.lc_rest.specs.Holder.{IsPlaced, node_of}
 use Rattle.lc_settled.specs.Numbers.{Numbers, stable_records}
 use Rattle.lc_core.specs.World.{FitsWorld}

@@ -11,7 +11,7 @@ use Rattle.lc_page.specs.PageWrite.{SettledIn}
 use Rattle.lc_rest.specs.Found.{Found, last_number, machine_disks, machine_setting, machine_state, own_records}
 use Rattle.lc_rest.specs.Holder.{IsPlaced, node_of}
 use Rattle.lc_token.specs.declared.token.Token.{Token}
-use Rattle.lc_trunc.specs.KnownClean.{known as known_of}
+use Rattle.lc_token.specs.KnownClean.{known as known_of}
 use Rattle.lc_core.specs.Adopting.{IsAdoptedToken}
 use Rattle.lc_core.specs.Pages.{RestsAll, areas_of}
 use Rattle.lc_rest.specs.Pages.{as_read}

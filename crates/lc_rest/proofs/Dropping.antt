@@ -26,7 +26,7 @@ use Rattle.lc_model.specs.Merge.{Page}
 use Rattle.lc_model.specs.Merging.{byte_at, counted_all, is_from, put_on, sets}
 use Rattle.lc_model.specs.Stored.{page_bytes}
 use Rattle.lc_model.proofs.Bytes.{over_byte, byte-laid, same-items}
-use Rattle.lc_trunc.specs.Clean.{HasByteOn}
+use Rattle.lc_token.specs.Clean.{HasByteOn}
 use Rattle.lc_rest.specs.Adopted.{Follow, IsCleaned, IsInside, IsNext, IsReplayed, IsTaken, count_from, transaction_of}
 use Rattle.lc_rest.specs.Found.{Found, last_number}
 use Rattle.lc_rest.specs.Replay.{above_on, bytes_above, laid_on, number_after}

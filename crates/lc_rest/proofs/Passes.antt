@@ -12,7 +12,7 @@ use Rattle.lc_record.specs.Newest.{number_or_zero}
 use Rattle.lc_record.specs.Part.{number_in}
 use Rattle.lc_record.specs.declared.record.Lock.{Lock}
 use Rattle.lc_record.specs.declared.record.Record.{Record}
-use Rattle.lc_trunc.specs.Clean.{HasByteOn}
+use Rattle.lc_token.specs.Clean.{HasByteOn}
 use Rattle.lc_model.specs.Merging.{is_from}
 use Rattle.lc_rest.specs.Adopted.{Follow, IsCleaned, IsTaken}
 use Rattle.lc_rest.specs.Found.{last_number}

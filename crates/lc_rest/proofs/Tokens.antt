@@ -12,7 +12,7 @@ use Rattle.lc_record.specs.declared.record.Lock.{Lock}
 use Rattle.lc_record.specs.declared.record.RangeData.{RangeData}
 use Rattle.lc_record.specs.declared.record.Record.{Record}
 use Rattle.lc_token.specs.declared.token.Token.{Token}
-use Rattle.lc_trunc.specs.Clean.{HasByteOn}
+use Rattle.lc_token.specs.Clean.{HasByteOn}
 use Rattle.lc_model.specs.Merging.{counted_all, is_from}
 use Rattle.lc_rest.specs.Adopted.{Follow, IsTaken, count_from, transaction_of}
 use Rattle.lc_rest.specs.Merge.{merged_after, no_record, record_at, times}

@@ -12,7 +12,7 @@ use Rattle.lc_rest.specs.NumbersTest.{AreNumbered}
 use Rattle.lc_rest.specs.Passed.{Read, log_of, merged}
 use Rattle.lc_rest.specs.Replay.{AreBytes, IsReplay, bytes_above, bytes_after}
 use Rattle.lc_rest.specs.TokenTest.{IsKeptToken, count_on}
-use Rattle.lc_trunc.specs.KnownClean.{known as known_of}
+use Rattle.lc_token.specs.KnownClean.{known as known_of}
 use Rattle.lc_tx.specs.declared.image.Image.{Image as Picture}
 use Rattle.lc_rest.specs.Parts.{AreSpelled}
 use Rattle.lc_rest.specs.declared.node_part.NodePart.{NodePart}

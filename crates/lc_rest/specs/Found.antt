@@ -10,7 +10,7 @@ use Rattle.lc_model.specs.Merge.{Page}
 use Rattle.lc_model.specs.Merging.{counted_all, is_from}
 use Rattle.lc_model.specs.State.{Place, At, Setting, State}
 use Rattle.lc_model.specs.Stored.{Disks}
-use Rattle.lc_trunc.specs.Clean.{HasByteOn}
+use Rattle.lc_token.specs.Clean.{HasByteOn}
 use Rattle.lc_rest.specs.Adopted.{transaction_of, state_of, setting_of, disks_of, AreTested, AreStored}
 
 -- what is known of a cluster at rest: all records in an order, how many of each node are stable, and how many of these its

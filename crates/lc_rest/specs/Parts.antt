@@ -9,7 +9,7 @@ use Rattle.lc_record.specs.declared.record.Lock.{Lock}
 use Rattle.lc_record.specs.declared.record.Record.{Record}
 use Rattle.lc_log.specs.LogText.{IsWhole, joined}
 use Rattle.lc_log.specs.NodeLog.{IsIdle}
-use Rattle.lc_trunc.specs.KnownClean.{known as known_of}
+use Rattle.lc_token.specs.KnownClean.{known as known_of}
 use Rattle.lc_rest.specs.declared.node_part.NodePart.{NodePart}
 use Rattle.lc_rest.specs.declared.parts.Parts.{Parts}
 use Rattle.lc_rest.specs.declared.segment_part.SegmentPart.{SegmentPart}

@@ -7,7 +7,7 @@ use Rattle.lc_record.specs.declared.record.Record.{Record}
 use Rattle.lc_model.specs.Merging.{is_from}
 use Rattle.lc_model.specs.Sound.{IsPlace}
 use Rattle.lc_model.specs.State.{At}
-use Rattle.lc_trunc.specs.Clean.{HasByteOn}
+use Rattle.lc_token.specs.Clean.{HasByteOn}
 use Rattle.lc_rest.specs.Adopted.{Follow, IsCleaned, IsReplayed, IsTaken, count_from}
 use Rattle.lc_rest.specs.Found.{Found, last_number}
 use Rattle.lc_rest.specs.Turns.{AreBehind, IsAtHome, stable_on, turns_of}

@@ -1,13 +1,12 @@
 //! The tests of a node's records.
 ghost use Rattle.std.specs.Prelude.{◌≡◌, ◌≤◌, ◌↔◌, ◌+◌, ℕ, IsTrue, All, Some, length, slice_get};
 ghost use Rattle.lc_token.specs.declared.token.Token.{Token as TheToken};
-ghost use Rattle.lc_trunc.specs.KnownClean.{known as known_of};
+ghost use Rattle.lc_token.specs.KnownClean.{known as known_of};
 ghost use Rattle.lc_rest.specs.Adopted.{IsInside};
 ghost use Rattle.lc_rest.specs.LogTest.{IsOwn};
 
 use lc_record::{Geometry, RangeData, Record};
-use lc_token::Token;
-use lc_trunc::KnownClean;
+use lc_token::{KnownClean, Token};
 
 // Whether the range lies in a segment of the geometry.
 fn is_inside(geometry: &Geometry, range: &RangeData) -> bool

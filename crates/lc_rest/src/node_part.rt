@@ -1,7 +1,7 @@
 //! What is handed over of a node of a cluster at rest.
 use lc_disk::Area;
 use lc_log::Idle;
-use lc_trunc::KnownClean;
+use lc_token::KnownClean;
 use lc_tx::Image;
 
 /// What is handed over of a node: its log, its round, and how clean it has seen the segments. The words of its records:
