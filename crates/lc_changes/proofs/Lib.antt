@@ -1,3 +1,16 @@
+mod Accepting
+mod Alone
+mod Answering
+mod Blocks
+mod Ending
 mod GatheredBytes
+mod HandedOver
 mod InOrder
+mod Like
+mod Private
 mod PutBack
+mod Quiet
+mod Reserving
+mod Standing
+mod Stopping
+mod Working

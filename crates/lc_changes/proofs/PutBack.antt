@@ -14,7 +14,7 @@ use Rattle.lc_tx.proofs.PutLemmas.{put_in, put_out}
 use Rattle.lc_changes.specs.Gathering.{puts_at, values_of, LieInImages}
 
 -- with an image's bytes put at a range, its bytes stand there too
-put_here : (new old : List ℕ) (r : Range) (rs : List Range) (k : ℕ) → length old ≡ length new → r.offset + r.len ≤ length new
+pub put_here : (new old : List ℕ) (r : Range) (rs : List Range) (k : ℕ) → length old ≡ length new → r.offset + r.len ≤ length new
     → ((k : ℕ) → (Has (r ∷ rs) r.segment k → ⊥) → get_or old k 0 ≡ get_or new k 0)
     → (Has rs r.segment k → ⊥) → get_or (put r.offset (take r.len (drop r.offset new)) old) k 0 ≡ get_or new k 0
 put_here new old r rs k long fits same none =

@@ -1,9 +1,13 @@
-//! What an open transaction has changed of images that its caller keeps.
+//! The changes that a thread makes alone to images of segments that it has locked, and the laws of these.
 #![tactic(auto)]
 
+mod calls;
 mod changes;
 mod gathering;
 mod laws;
 
+pub use calls::{
+    alike_over_stops, calls_are_a_run, changes_answer_as_rows, ends_are_their_work, two_take_turns,
+};
 pub use changes::Changes;
-pub use laws::{gathered_in_order, puts_give_images};
+pub use laws::{gathered_in_order, held_alone, private_images, puts_give_images};
