@@ -16,6 +16,7 @@ mod keeping;
 mod last_call;
 mod mirror_area;
 mod restoring;
+mod round_exports;
 mod session;
 mod session_state;
 mod setting_aside;

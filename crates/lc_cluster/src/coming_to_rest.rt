@@ -24,7 +24,7 @@ use std::sync::Wait;
 
 impl<D: Area + Drop> Cluster<D> {
     /// What the cluster leaves once its threads have ended, of each node and of each segment, as the types of a running
-    /// node keep it: `lc_adopt::into_world` makes a store of it. For each node there is a list of its committers'
+    /// node keep it: `lc_store::into_world` makes a store of it. For each node there is a list of its committers'
     /// seats, which may be empty: each record of which one of them has a receipt stands in the node's log, or is of an
     /// earlier round and known clean. It waits for each lock, so who still has a log or a segment lets it wait for
     /// ever. That the parts agree with one another is not looked at.

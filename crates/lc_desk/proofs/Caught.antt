@@ -17,7 +17,7 @@ use Rattle.lc_token.specs.declared.received.Received.{Received}
 use Rattle.lc_token.specs.declared.received.Received.TheVariants.{Applied, HeldBack, Ignored}
 use Rattle.lc_token.specs.declared.token.Token.{Token}
 use Rattle.lc_token.proofs.BacklogLemmas.{ascends_past, ascends_put, due_next, unknown}
-use Rattle.lc_trunc.specs.Clean.{all_of}
+use Rattle.lc_token.specs.Clean.{all_of}
 use Rattle.lc_tx.specs.declared.holders.Holders.TheVariants.{Free}
 use Rattle.lc_tx.specs.declared.image.Image.{Image as Picture}
 use Rattle.lc_model.specs.Sound.{Sound}

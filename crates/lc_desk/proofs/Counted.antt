@@ -6,7 +6,6 @@ use Rattle.std.specs.List.{list_any}
 use Rattle.std.proofs.lemmas.Bool.{and_from, and_parts, cases_lt, eq-eqb, eqb-true, lt-ltb, ltb-true, or_cases, or_left, or_right}
 use Rattle.lc_range.specs.RangeSet.{Has, IsCanonical}
 use Rattle.lc_range.specs.declared.range.Range.{Range}
-use Rattle.lc_token.specs.Backlog.{above}
 
 -- the range has a position of the segment from one up to another
 abbrev meets : ℕ → ℕ → ℕ → Range → Bool

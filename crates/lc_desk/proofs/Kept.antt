@@ -5,7 +5,7 @@ use Rattle.std.proofs.lemmas.Bool.{cases_eq, cases_lt}
 use Rattle.std.proofs.lemmas.List.Elements.{All-cons, All-head, All-tail}
 use Rattle.lc_record.specs.Transaction.{is_member}
 use Rattle.lc_record.specs.declared.part.Part.{Part}
-use Rattle.lc_token.specs.Backlog.{Ascends, above, numbered, put, run_of}
+use Rattle.lc_token.specs.Backlog.{Ascends, parts_above, numbered, put, run_of}
 use Rattle.lc_token.proofs.BacklogLemmas.{above_all, above_later}
 use Rattle.lc_settled.specs.Numbers.{reached}
 use Rattle.lc_desk.specs.Receives.{parts_over}
@@ -31,14 +31,14 @@ put_is part (p ∷ ps) = elim (nat_lt part.seq p.seq) as (λ b. numbers (if b th
   | false ↦ ap (λ ns. p.seq ∷ ns) (put_is part ps)
 ]
 
-pub above_is : (n : ℕ) (ps : List Part) → numbers (above n ps) ≡ filter (λ k. nat_lt n k) (numbers ps)
+pub above_is : (n : ℕ) (ps : List Part) → numbers (parts_above n ps) ≡ filter (λ k. nat_lt n k) (numbers ps)
 above_is n [] = refl
-above_is n (p ∷ ps) = elim (nat_lt n p.seq) as (λ b. numbers (if b then p ∷ above n ps else above n ps) ≡ (if b then p.seq ∷ filter (λ k. nat_lt n k) (numbers ps) else filter (λ k. nat_lt n k) (numbers ps))) [
+above_is n (p ∷ ps) = elim (nat_lt n p.seq) as (λ b. numbers (if b then p ∷ parts_above n ps else parts_above n ps) ≡ (if b then p.seq ∷ filter (λ k. nat_lt n k) (numbers ps) else filter (λ k. nat_lt n k) (numbers ps))) [
   | true ↦ ap (λ ns. p.seq ∷ ns) (above_is n ps)
   | false ↦ above_is n ps
 ]
 
-pub above_ascends : (low n : ℕ) (ps : List Part) → Ascends low ps → Ascends n (above n ps)
+pub above_ascends : (low n : ℕ) (ps : List Part) → Ascends low ps → Ascends n (parts_above n ps)
 above_ascends low n [] up = tt
 above_ascends low n (p ∷ ps) up = elim (cases_lt n p.seq) [
   | inl over ↦ subst (Ascends n) (sym (above_all n n (p ∷ ps) (over, up.1) (omega arith))) (over, up.1)

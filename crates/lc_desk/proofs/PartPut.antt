@@ -15,7 +15,7 @@ use Rattle.lc_record.specs.declared.record.RangeData.{RangeData}
 use Rattle.lc_record.specs.declared.record.Record.{Record}
 use Rattle.lc_record.proofs.SegmentLemmas.{segment_of-same, segment_of-other}
 use Rattle.lc_record.proofs.ListLemmas.{All-append_left as All-left, All-append_right as All-right}
-use Rattle.lc_trunc.specs.Clean.{all_of}
+use Rattle.lc_token.specs.Clean.{all_of}
 use Rattle.lc_tx.specs.Image.{laid_over}
 use Rattle.lc_model.specs.History.{transactions}
 use Rattle.lc_model.specs.Merging.{sets, counted_all}

@@ -32,7 +32,7 @@ use Rattle.lc_model.proofs.Lists.{found-all, found-passes, split}
 use Rattle.lc_model.proofs.Merging.{counted-length}
 use Rattle.lc_model.proofs.RecordBytes.{sets-locks}
 use Rattle.lc_model.proofs.Rows.{reserve-ended, reserve-refused}
-use Rattle.lc_trunc.specs.Clean.{closed_of}
+use Rattle.lc_token.specs.Clean.{closed_of}
 use Rattle.lc_tx.specs.Fault.{is_of_needs}
 use Rattle.lc_tx.specs.Images.{IsHere}
 use Rattle.lc_tx.specs.Prepared.{AreSmall, AreUnspent, IsFirstSpent, IsLoggable, final_record}

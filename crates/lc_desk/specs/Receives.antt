@@ -7,7 +7,7 @@ use Rattle.lc_record.specs.declared.record.Record.{Record}
 use Rattle.lc_token.specs.Backlog.{Backlog, is_known}
 use Rattle.lc_token.specs.declared.received.Received.{Received}
 use Rattle.lc_token.specs.declared.received.Received.TheVariants.{Applied, HeldBack, Ignored}
-use Rattle.lc_trunc.specs.Clean.{all_of}
+use Rattle.lc_token.specs.Clean.{all_of}
 use Rattle.lc_tx.specs.Image.{laid_over}
 use Rattle.lc_model.specs.Sound.{Sound}
 use Rattle.lc_model.specs.State.{Setting, State}

@@ -10,7 +10,7 @@ use Rattle.lc_record.specs.declared.record.Record.{Record}
 use Rattle.lc_token.specs.Backlog.{Backlog, Ascends}
 use Rattle.lc_token.specs.Standing.{Standing}
 use Rattle.lc_token.specs.declared.token.Token.{Token}
-use Rattle.lc_trunc.specs.Clean.{all_of}
+use Rattle.lc_token.specs.Clean.{all_of}
 use Rattle.lc_tx.specs.declared.holders.Holders.TheVariants.{Free}
 use Rattle.lc_tx.specs.declared.image.Image.{Image as Picture}
 use Rattle.lc_model.specs.State.{Setting, State}

@@ -35,10 +35,10 @@ use Rattle.lc_model.proofs.Law.{AllPairs-head, AllPairs-tail}
 use Rattle.lc_model.proofs.Lists.{All-from_map, found-all, found-passes}
 use Rattle.lc_model.proofs.Merging.{counted-length}
 use Rattle.lc_model.proofs.RecordBytes.{place-set, record-number, set-place, sets-locks}
-use Rattle.lc_token.specs.Backlog.{Ascends, Backlog, above}
+use Rattle.lc_token.specs.Backlog.{Ascends, Backlog, parts_above}
 use Rattle.lc_token.specs.Standing.{Standing}
 use Rattle.lc_token.specs.declared.token.Token.{Token}
-use Rattle.lc_trunc.specs.Clean.{closed_of}
+use Rattle.lc_token.specs.Clean.{closed_of}
 use Rattle.lc_tx.specs.Images.{IsHere}
 use Rattle.lc_events.specs.Beside.{BesideSlots}
 use Rattle.lc_desk.specs.Counts.{Counts, CountsAll, CountsSlot, CountsToken, countable, countable_in, names, names_page}
@@ -285,7 +285,7 @@ module _ (m : Setting) (n i : ℕ) (s : State) (x : Numbers) (t : Transaction) (
         none = none_waits m s x segment old.parts.applied old.parts.kept h.ascends h.parts (h.applied ∙ (h.token token is).1)
 
         none_after : new.parts.kept ≡ []
-        none_after = ap (λ (p : Backlog). p.kept) c.parts_are ∙ ap (above (token.seq + 1)) none
+        none_after = ap (λ (p : Backlog). p.kept) c.parts_are ∙ ap (parts_above (token.seq + 1)) none
 
     module _ (few : (segment : ℕ) → sets segment t ≡ true → token_number s x segment < 2 ^ 60) where
       slot_after : (segment : ℕ) (old new : SegmentCopy) → (sets segment t ≡ true → IsSome (number_in old.token.token)) → FitsSlot m n segment (beside old) s x → Counts segment ranges old new → FitsSlot m n segment (beside new) (after m n i s x t sound found) y

@@ -12,7 +12,7 @@ use Rattle.lc_record.specs.Transaction.{IsWellFormed, Meet, effect, effects}
 use Rattle.lc_record.specs.declared.record.Record.{Record}
 use Rattle.lc_record.proofs.LockLemmas.{lock_holds}
 use Rattle.lc_record.proofs.ListLemmas.{All-append_left as All-left, All-append_right as All-right}
-use Rattle.lc_trunc.specs.Clean.{all_of, closed_of}
+use Rattle.lc_token.specs.Clean.{all_of, closed_of}
 use Rattle.lc_model.specs.History.{Entry, History, transactions, entries_of, is_of, front, leading}
 use Rattle.lc_model.specs.Merging.{counted_all, is_from, sets}
 use Rattle.lc_model.specs.Sound.{Sound, IsClosedBefore, unclosed}

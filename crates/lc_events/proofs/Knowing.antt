@@ -2,7 +2,7 @@
 use Rattle.std.proofs.Common.{◌≡◌, ℕ, ◌+◌, Bool, true, false, List, Option, Some, None, refl, sym, ap, subst, ◌∙◌, arith}
 use Rattle.std.specs.Prelude.{◌%◌, ◌==◌, max, slice_get, MatchOption, option_and_then, if◌then◌else◌}
 use Rattle.lc_token.specs.declared.token.Token.{Token}
-use Rattle.lc_trunc.specs.KnownClean.{Sees, known as known_of}
+use Rattle.lc_token.specs.KnownClean.{Sees, known as known_of}
 use Rattle.lc_recover.specs.Recovered.{RecoveredStore, sequence_of}
 use Rattle.lc_desk.specs.Fresh.{IsFreshSlot, fresh_token}
 use Rattle.lc_events.specs.Fresh.{known_first}

@@ -15,8 +15,8 @@ use Rattle.lc_record.proofs.ListLemmas.{slice_get-map_some as get-map}
 use Rattle.lc_model.proofs.Moves.{update_at-own as own_at}
 use Rattle.lc_token.specs.Token.{IsWritten}
 use Rattle.lc_token.specs.declared.token.Token.{Token}
-use Rattle.lc_trunc.specs.Clean.{closed_of}
-use Rattle.lc_trunc.specs.KnownClean.{Sees, known as known_of}
+use Rattle.lc_token.specs.Clean.{closed_of}
+use Rattle.lc_token.specs.KnownClean.{Sees, known as known_of}
 use Rattle.lc_model.specs.History.{transactions}
 use Rattle.lc_model.specs.Merge.{Page}
 use Rattle.lc_model.specs.Merging.{counted_all, sets}

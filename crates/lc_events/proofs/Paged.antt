@@ -16,8 +16,8 @@ use Rattle.lc_record.specs.declared.geometry.Geometry.{Geometry}
 use Rattle.lc_record.proofs.ListLemmas.{slice_get_some as some_at, slice_get-map_some as get-map, some_from_is_some as some_token}
 use Rattle.lc_token.specs.Token.{IsWritten}
 use Rattle.lc_token.specs.declared.token.Token.{Token}
-use Rattle.lc_trunc.specs.KnownClean.{Sees}
-use Rattle.lc_trunc.proofs.NumberLemmas.{token-number}
+use Rattle.lc_token.specs.KnownClean.{Sees}
+use Rattle.lc_token.proofs.NumberLemmas.{token-number}
 use Rattle.lc_model.specs.History.{transactions, reserved}
 use Rattle.lc_model.specs.Machine.{halting, may_page}
 use Rattle.lc_model.specs.Merge.{Page as StorePage}

@@ -15,7 +15,7 @@ use Rattle.lc_record.specs.declared.part.Part.{Part}
 use Rattle.lc_record.proofs.LockLemmas.{lock_holds}
 use Rattle.lc_record.proofs.ListLemmas.{slice_get-map_some as get-map, All-append_right as All-right}
 use Rattle.lc_token.specs.declared.token.Token.{Token}
-use Rattle.lc_trunc.specs.Clean.{all_of, closed_of}
+use Rattle.lc_token.specs.Clean.{all_of, closed_of}
 use Rattle.lc_tx.specs.declared.holders.Holders.TheVariants.{Free}
 use Rattle.lc_tx.specs.declared.image.Image.{Image as Picture}
 use Rattle.lc_model.specs.History.{History, transactions, value}

@@ -10,7 +10,7 @@ use Rattle.lc_record.specs.Marks.{counting}
 use Rattle.lc_model.proofs.Moves.{update_at-own as own_at}
 use Rattle.lc_token.specs.Token.{IsWritten}
 use Rattle.lc_token.specs.declared.token.Token.{Token}
-use Rattle.lc_trunc.specs.Clean.{closed_of}
+use Rattle.lc_token.specs.Clean.{closed_of}
 use Rattle.lc_model.specs.Merge.{Page}
 use Rattle.lc_model.specs.Merging.{counted_all}
 use Rattle.lc_model.specs.Moves.{update_at}

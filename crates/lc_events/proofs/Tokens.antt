@@ -41,7 +41,7 @@ use Rattle.lc_desk.specs.declared.here.Here.{Here}
 use Rattle.lc_journal.specs.declared.journal.Journal.{Journal}
 use Rattle.lc_events.specs.declared.node_state.NodeState.{NodeState}
 use Rattle.lc_desk.specs.declared.segment_copy.SegmentCopy.{SegmentCopy}
-use Rattle.lc_trunc.specs.KnownClean.{Sees, known as known_of}
+use Rattle.lc_token.specs.KnownClean.{Sees, known as known_of}
 use Rattle.lc_model.specs.Moves.{update_at}
 use Rattle.lc_desk.proofs.Gained.{other_node, other_segment}
 use Rattle.lc_events.proofs.Going.{settled_by, stays_so}

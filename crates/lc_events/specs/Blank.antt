@@ -3,7 +3,7 @@ use Rattle.std.specs.Prelude.{◌≡◌, ◌≤◌, ℕ}
 use Rattle.lc_disk.specs.declared.area.Area.{Ghosts}
 use Rattle.lc_record.specs.declared.geometry.Geometry.{Geometry}
 use Rattle.lc_recover.specs.Recovered.{RecoveredStore}
-use Rattle.lc_trunc.specs.KnownClean.{KnowsNothing, known as known_of}
+use Rattle.lc_token.specs.KnownClean.{KnowsNothing, known as known_of}
 use Rattle.lc_events.specs.Fresh.{known_first}
 use Rattle.lc_events.specs.declared.node_state.NodeState.{NodeState}
 use Rattle.lc_desk.specs.Blank.{AreFreshSlots, IsBlankDesk, StandAt}

@@ -20,7 +20,7 @@ use Rattle.lc_desk.specs.Prepares.{GetsPlace}
 use Rattle.lc_settled.specs.Settled.{Settled, is_writing}
 use Rattle.lc_desk.specs.Slots.{FitsSlots, FitsToken, besides_of}
 use Rattle.lc_settled.specs.Turns.{Turns}
-use Rattle.lc_trunc.specs.KnownClean.{Sees, known as known_of}
+use Rattle.lc_token.specs.KnownClean.{Sees, known as known_of}
 use Rattle.lc_desk.specs.declared.segment_copy.SegmentCopy.{SegmentCopy}
 use Rattle.lc_events.specs.declared.node_state.NodeState.{NodeState}
 

@@ -12,8 +12,7 @@ use lc_disk::Area;
 use lc_journal::{Journal, Log, NodePiece, Records};
 use lc_record::{Geometry, Group};
 use lc_recover::Recovered;
-use lc_token::Token;
-use lc_trunc::KnownClean;
+use lc_token::{KnownClean, Token};
 use std::alloc::{AllocError, Global};
 
 impl<D: Area + Drop> NodeState<D> {

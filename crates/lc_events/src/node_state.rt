@@ -17,8 +17,7 @@ use lc_desk::{Desk, Ending, LogEnd};
 use lc_disk::Area;
 use lc_journal::Journal;
 use lc_model::{Refusal, Reply};
-use lc_token::Token;
-use lc_trunc::KnownClean;
+use lc_token::{KnownClean, Token};
 use std::alloc::{AllocError, Global};
 
 /// What a node's threads do, its log, and how clean it has seen the segments.

@@ -26,8 +26,8 @@ use Rattle.lc_model.proofs.Law.{AllPairs-head, AllPairs-tail}
 use Rattle.lc_model.proofs.Lists.{All-from_map, found-all}
 use Rattle.lc_model.proofs.Merging.{counted-length, numbers-above, record-final}
 use Rattle.lc_model.proofs.RecordBytes.{record-number, sets-locks}
-use Rattle.lc_trunc.specs.Clean.{HasByteOn, TokenFits, closed_of}
-use Rattle.lc_trunc.proofs.CleanLemmas.{token-closed}
+use Rattle.lc_token.specs.Clean.{HasByteOn, TokenFits, closed_of}
+use Rattle.lc_token.proofs.CleanLemmas.{token-closed}
 use Rattle.lc_journal.specs.Coherent.{AreCoherent, entries_of}
 use Rattle.lc_settled.specs.Numbers.{Numbers, sets_on, stable, token_number}
 use Rattle.lc_settled.specs.Turns.{with_record}

@@ -28,8 +28,8 @@ use Rattle.lc_model.proofs.Lists.{found-passes}
 use Rattle.lc_model.proofs.Merging.{counted-length}
 use Rattle.lc_model.proofs.Rows.{known, node_known}
 use Rattle.lc_model.proofs.Steps.{step-keeps}
-use Rattle.lc_trunc.specs.Clean.{TokenFits, closed_of}
-use Rattle.lc_trunc.proofs.CleanLemmas.{token-appended}
+use Rattle.lc_token.specs.Clean.{TokenFits, closed_of}
+use Rattle.lc_token.proofs.CleanLemmas.{token-appended}
 use Rattle.lc_journal.specs.Coherent.{AreCoherent, entries_of}
 use Rattle.lc_settled.specs.Numbers.{Numbers, log_end, next_record, token_number}
 use Rattle.lc_settled.specs.Settled.{IsAnswer, Settled, first_spent, number_of, open_answer, page_answer, record_refusal, refusal_or, reserve_answer, reserve_open, reset_call}

@@ -20,7 +20,7 @@ use Rattle.lc_model.specs.Merge.{Page}
 use Rattle.lc_model.specs.Recovered.{recovered_disks}
 use Rattle.lc_model.specs.State.{Up, Setting, State, fresh}
 use Rattle.lc_model.specs.Stored.{Disks, Shows, base, Fits as FitsDisks}
-use Rattle.lc_trunc.specs.Clean.{IsCleanTo, IsTouched, TokenFits, all_of}
+use Rattle.lc_token.specs.Clean.{IsCleanTo, IsTouched, TokenFits, all_of}
 use Rattle.lc_journal.specs.Coherent.{AreCoherent, entries_of}
 use Rattle.lc_settled.specs.Numbers.{Numbers, recovered_numbers, stable, token_number}
 

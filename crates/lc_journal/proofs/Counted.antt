@@ -20,7 +20,7 @@ use Rattle.lc_model.proofs.Lists.{All-from_map, split}
 use Rattle.lc_model.proofs.Merging.{counted-length}
 use Rattle.lc_model.proofs.RecordBytes.{place-set, set-place, sets-locks}
 use Rattle.lc_model.proofs.Visible.{none-pass}
-use Rattle.lc_trunc.specs.Clean.{closed_of}
+use Rattle.lc_token.specs.Clean.{closed_of}
 use Rattle.lc_settled.specs.Numbers.{Numbers, sets_on, token_number}
 
 -- The numbers of the tokens

@@ -16,8 +16,8 @@ use Rattle.lc_model.specs.Stored.{Fits as FitsDisks}
 use Rattle.lc_model.proofs.Keeps.{update-case}
 use Rattle.lc_model.proofs.Moves.{keeps-settled, shows-settled, update_at-own as entry_own}
 use Rattle.lc_model.proofs.Seats.{update-other, update-own}
-use Rattle.lc_trunc.specs.Clean.{TokenFits}
-use Rattle.lc_trunc.proofs.CleanLemmas.{token-fewer, token-written}
+use Rattle.lc_token.specs.Clean.{TokenFits}
+use Rattle.lc_token.proofs.CleanLemmas.{token-fewer, token-written}
 use Rattle.lc_journal.specs.Coherent.{AreCoherent, IsWriteOf, entries_of}
 use Rattle.lc_settled.specs.Numbers.{Numbers, stable, token_number}
 use Rattle.lc_settled.specs.Turns.{cleaned, is_dirty as is_page_dirty, oldest_dirty, seen, settled_with, written}

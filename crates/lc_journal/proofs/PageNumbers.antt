@@ -20,9 +20,9 @@ use Rattle.lc_model.proofs.Holders.{at_is}
 use Rattle.lc_model.proofs.Keeps.{acked-reserved}
 use Rattle.lc_model.proofs.Moves.{keeps-begun, keeps-opening, stands-now, token-stable, update_at-own as entry_own}
 use Rattle.lc_model.proofs.Seats.{update-other, update-own}
-use Rattle.lc_trunc.specs.Clean.{closed_of}
-use Rattle.lc_trunc.proofs.CleanLemmas.{token-fewer, token-opened}
-use Rattle.lc_trunc.proofs.NumberLemmas.{token-number}
+use Rattle.lc_token.specs.Clean.{closed_of}
+use Rattle.lc_token.proofs.CleanLemmas.{token-fewer, token-opened}
+use Rattle.lc_token.proofs.NumberLemmas.{token-number}
 use Rattle.lc_journal.specs.Coherent.{AreCoherent, IsWriteOf, entries_of}
 use Rattle.lc_settled.specs.Numbers.{Numbers, sets_on, stable, token_number}
 use Rattle.lc_settled.specs.Settled.{IsAnswer, begun_number, is_unflushed, page_answer, page_call, refusal_or}

@@ -6,7 +6,7 @@ use Rattle.lc_model.specs.History.{Entry}
 use Rattle.lc_model.specs.Machine.{appended}
 use Rattle.lc_model.specs.State.{State}
 use Rattle.lc_model.proofs.Fronts.{entry}
-use Rattle.lc_trunc.specs.Clean.{closed_of}
+use Rattle.lc_token.specs.Clean.{closed_of}
 use Rattle.lc_settled.proofs.Appending.{filter-end}
 
 -- The numbers of tokens

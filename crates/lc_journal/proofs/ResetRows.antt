@@ -8,7 +8,7 @@ use Rattle.std.proofs.lemmas.Option.{same_Some as same_some}
 use Rattle.lc_disk.specs.declared.area.Area.{Ghosts}
 use Rattle.lc_record.specs.declared.record.Record.{Record}
 use Rattle.lc_record.proofs.ListLemmas.{drop-take_same as nothing_behind}
-use Rattle.lc_trunc.specs.declared.unclean.Unclean.{Unclean as Pair}
+use Rattle.lc_token.specs.declared.unclean.Unclean.{Unclean as Pair}
 use Rattle.lc_model.specs.History.{reserved}
 use Rattle.lc_model.specs.Machine.{Row, halting, may_reset}
 use Rattle.lc_model.specs.Refusals.{common_refusal}

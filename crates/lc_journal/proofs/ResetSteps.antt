@@ -19,9 +19,9 @@ use Rattle.lc_model.specs.declared.refusal.Refusal.TheVariants.{RoundsSpent, Unf
 use Rattle.lc_model.specs.declared.reply.Reply.{Reply}
 use Rattle.lc_model.specs.declared.reply.Reply.TheVariants.{Nothing, Refused, Reset, Stepped}
 use Rattle.lc_model.proofs.Moves.{keeps-dropped, keeps-reset, reserved-count}
-use Rattle.lc_trunc.specs.Reset.{above, is_before, lesser}
-use Rattle.lc_trunc.specs.declared.unclean.Unclean.{Unclean as Pair}
-use Rattle.lc_trunc.proofs.CleanLemmas.{all-on_pages, token-fewer}
+use Rattle.lc_token.specs.Reset.{above, is_before, lesser}
+use Rattle.lc_token.specs.declared.unclean.Unclean.{Unclean as Pair}
+use Rattle.lc_token.proofs.CleanLemmas.{all-on_pages, token-fewer}
 use Rattle.lc_journal.specs.Coherent.{AreCoherent, entries_of}
 use Rattle.lc_settled.specs.Numbers.{Numbers, stable_records, token_number}
 use Rattle.lc_settled.specs.Settled.{IsAnswer, is_unflushed, last_round, least_unclean, locks_in, refusal_or, reset_begins, reset_call, unclean_or}

@@ -4,8 +4,8 @@ use Rattle.std.specs.Prelude.{nat_lt, if◌then◌else◌}
 use Rattle.std.proofs.lemmas.Option.{same_Some as same_some}
 use Rattle.lc_record.specs.declared.record.Lock.{Lock}
 use Rattle.lc_record.specs.declared.record.Record.{Record}
-use Rattle.lc_trunc.specs.Reset.{above, lesser}
-use Rattle.lc_trunc.specs.declared.unclean.Unclean.{Unclean}
+use Rattle.lc_token.specs.Reset.{above, lesser}
+use Rattle.lc_token.specs.declared.unclean.Unclean.{Unclean}
 use Rattle.lc_model.specs.Sound.{Sound}
 use Rattle.lc_model.specs.State.{Setting, State}
 use Rattle.lc_model.specs.Stored.{records_of}

@@ -6,7 +6,7 @@ use Rattle.lc_record.specs.Marks.{counting}
 use Rattle.lc_record.specs.declared.geometry.Geometry.{Geometry}
 use Rattle.lc_model.specs.Merge.{Page}
 use Rattle.lc_model.specs.State.{Setting, State}
-use Rattle.lc_trunc.specs.Clean.{TokenFits}
+use Rattle.lc_token.specs.Clean.{TokenFits}
 use Rattle.lc_settled.specs.Numbers.{Numbers, token_number, stable}
 
 -- what a segment's token says of its pages, by the numbers

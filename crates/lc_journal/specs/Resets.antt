@@ -1,7 +1,7 @@
 -- What the first step of a reset asks of a log's records.
 use Rattle.std.specs.Prelude.{◌≡◌, ◌≤◌, ◌⊎◌, ℕ, Option, None}
 use Rattle.lc_disk.specs.declared.area.Area.{Ghosts}
-use Rattle.lc_trunc.specs.declared.unclean.Unclean.{Unclean}
+use Rattle.lc_token.specs.declared.unclean.Unclean.{Unclean}
 use Rattle.lc_model.specs.Machine.{Row, halting}
 use Rattle.lc_model.specs.Refusals.{common_refusal}
 use Rattle.lc_model.specs.Sound.{Sound}

@@ -20,7 +20,7 @@ use crate::show_fault::ShowFault;
 use lc_disk::Area;
 use lc_log::Idle;
 use lc_record::Geometry;
-use lc_trunc::KnownClean;
+use lc_token::KnownClean;
 use std::alloc::Global;
 use std::mem;
 

@@ -9,7 +9,7 @@ ghost use Rattle.lc_journal.specs.Pieces.{IsNodePiece};
 use crate::records::Records;
 use lc_disk::Area;
 use lc_log::Idle;
-use lc_trunc::KnownClean;
+use lc_token::KnownClean;
 use std::alloc::{AllocError, Global};
 
 /// What a node of a store is made of. It has its log and its round, its records that no reset has dropped, all of them

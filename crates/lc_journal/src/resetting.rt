@@ -3,7 +3,7 @@ ghost use Rattle.std.specs.Prelude.{◌≡◌, ◌⊎◌, ◌++◌, ℕ, List, t
 ghost use Rattle.lc_record.specs.Record.{IsRecord};
 ghost use Rattle.lc_record.specs.declared.record.Lock.{Lock as Locked};
 ghost use Rattle.lc_record.specs.declared.record.Record.{Record as Spelled};
-ghost use Rattle.lc_trunc.specs.KnownClean.{known as known_of};
+ghost use Rattle.lc_token.specs.KnownClean.{known as known_of};
 ghost use Rattle.lc_journal.specs.CallReplies.{tells_but};
 ghost use Rattle.lc_journal.specs.FaultReplies.{TellsFault};
 ghost use Rattle.lc_journal.specs.MayReply.{or_fault};
@@ -18,7 +18,7 @@ use crate::log::Log;
 use lc_disk::Area;
 use lc_model::{Refusal, Reply};
 use lc_record::{kept_lock, kept_lock_count};
-use lc_trunc::{KnownClean, Unclean, above, lesser};
+use lc_token::{KnownClean, Unclean, above, lesser};
 use std::mem;
 
 // The last round of a log.

@@ -8,7 +8,7 @@ use Rattle.lc_stage.specs.Seats.{commit_view, flush_view, IsFlusherOf, IsSeatOf}
 use Rattle.lc_stage.specs.Staging.{newcomer, flusher}
 use Rattle.lc_stage.specs.declared.seats.CommitSeat.{CommitSeat}
 use Rattle.lc_stage.specs.declared.stage.Stage.{Stage}
-use Rattle.lc_trunc.specs.KnownClean.{KnowsNothing}
+use Rattle.lc_token.specs.KnownClean.{KnowsNothing}
 use Rattle.lc_node.specs.FreshSegment.{IsFreshSegment}
 use Rattle.lc_node.specs.declared.fresh_node.FreshNode.{FreshNode}
 use Rattle.lc_node.specs.declared.fresh_segment.FreshSegment.{FreshSegment}

@@ -1,7 +1,7 @@
 //! Whether a call of one of a node's devices has failed.
 ghost use Rattle.std.specs.Prelude.{◌≡◌, ◌⊎◌, ◌↔◌, true, Err, IfErr, IfOk, IsTrue};
 ghost use Rattle.lc_stage.specs.Seats.{IsFlusherOf, IsSeatOf};
-ghost use Rattle.lc_log_side.specs.Ended.{LacksRoom};
+ghost use Rattle.lc_log_side.specs.EndedRoom.{LacksRoom};
 ghost use Rattle.lc_log_side.specs.Flushes.{Flushes, IsUnflushed};
 ghost use Rattle.lc_log_side.specs.Halting.{HasFaults};
 ghost use Rattle.lc_log_side.specs.LogView.{LogView};

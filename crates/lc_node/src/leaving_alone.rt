@@ -16,7 +16,7 @@ use std::sync::Wait;
 
 impl<D: Area + Drop> Node<D> {
     /// What a node leaves that was opened alone, once its threads have ended, as `Cluster::into_parts` says of a
-    /// cluster: `lc_adopt::node_into_world` makes a store of one node of it. Each record of which one of the
+    /// cluster: `lc_store::node_into_world` makes a store of one node of it. Each record of which one of the
     /// committers' seats has a receipt stands in the log, or is of an earlier round and known clean. It waits for each
     /// lock, so who still has a log or a segment lets it wait for ever.
     ///

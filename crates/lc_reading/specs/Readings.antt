@@ -16,7 +16,7 @@ use Rattle.lc_rest.specs.TokenTest.{IsKeptToken, count_on}
 use Rattle.lc_rest.specs.declared.holder.Holder.{Holder}
 use Rattle.lc_rest.specs.declared.holder.Holder.TheVariants.{Here, Left}
 use Rattle.lc_token.specs.declared.token.Token.{Token as TheToken}
-use Rattle.lc_trunc.specs.KnownClean.{known as known_of}
+use Rattle.lc_token.specs.KnownClean.{known as known_of}
 use Rattle.lc_tx.specs.declared.image.Image.{Image as Picture}
 use Rattle.lc_rest.specs.AtRest.{AllKeepTokens, AreMerged, IsFirst, KeepsToken}
 use Rattle.lc_desk.specs.Pieces.{is_here}

@@ -31,8 +31,7 @@ use lc_rest::{
     keeps_numbers, keeps_own, keeps_token, merge_records, replay_segment, replay_up_to,
     stable_number,
 };
-use lc_token::Token;
-use lc_trunc::KnownClean;
+use lc_token::{KnownClean, Token};
 use std::alloc::{AllocError, Global};
 
 impl ReadParts {

@@ -24,7 +24,7 @@ use Rattle.lc_model.specs.declared.reply.Reply.{Reply}
 use Rattle.lc_model.specs.declared.reply.Reply.TheVariants.{Ok as Accepted, Reserved, Stepped, Nothing, Applied, HeldBack, Ignored, Refused}
 use Rattle.lc_model.proofs.Choices.{some_answer, one_answer, flush_step-one}
 use Rattle.lc_model.proofs.Keeps.{acked-reserved}
-use Rattle.lc_trunc.specs.declared.unclean.Unclean.{Unclean as Pair}
+use Rattle.lc_token.specs.declared.unclean.Unclean.{Unclean as Pair}
 use Rattle.lc_settled.specs.Numbers.{Numbers, token_number, stable, sets_on, stable_records, log_end, next_record, reached}
 use Rattle.lc_settled.specs.Settled.{refusal_or, first_spent, record_refusal, reserve_answer, reserve_open, is_writing, is_unflushed, leave_answer, arrive_answer, receive_answer, record_answer, number_of, deliver_answer, trim_answer, page_call, page_answer, least_unclean, locks_in, unclean_or, last_round, reset_begins, reset_call, open_answer, IsAnswer, CountsSteps, Settled}
 

@@ -16,7 +16,7 @@ use Rattle.lc_model.specs.Merging.{counted_all}
 use Rattle.lc_model.specs.Recovered.{recovered_disks}
 use Rattle.lc_model.specs.State.{Setting, State}
 use Rattle.lc_model.specs.Stored.{Disks, records_of}
-use Rattle.lc_trunc.specs.Clean.{closed_of}
+use Rattle.lc_token.specs.Clean.{closed_of}
 
 pub record Numbers : Type 0 where
   -- what the disks hold beside the records of the history: each segment's number at the last recovery, what resets have

@@ -20,8 +20,8 @@ use Rattle.lc_model.specs.declared.refusal.Refusal.{Refusal}
 use Rattle.lc_model.specs.declared.refusal.Refusal.TheVariants.{Unknown, NotHere, SequenceSpent, TooLong, Sealed, Full, Writing, Unflushed, Behind, Uncommitted, NotNewer, Unclean, RoundsSpent, DeviceFault}
 use Rattle.lc_model.specs.declared.reply.Reply.{Reply}
 use Rattle.lc_model.specs.declared.reply.Reply.TheVariants.{Ok as Accepted, Reserved, Stepped, Acked, Nothing, Applied, HeldBack, Ignored, Trimmed, Written, Reset, Recovered, Refused}
-use Rattle.lc_trunc.specs.Reset.{above, lesser}
-use Rattle.lc_trunc.specs.declared.unclean.Unclean.{Unclean as Pair}
+use Rattle.lc_token.specs.Reset.{above, lesser}
+use Rattle.lc_token.specs.declared.unclean.Unclean.{Unclean as Pair}
 use Rattle.lc_settled.specs.Numbers.{Numbers, token_number, stable, sets_on, stable_records, log_end, published, next_record, is_applied, reached}
 
 -- the refusal, or this reply

@@ -5,7 +5,6 @@ ghost use Rattle.lc_record.specs.Geometry.{HasNumbers};
 ghost use Rattle.lc_stage.specs.declared.seats.CommitSeat.{CommitSeat as Seat};
 ghost use Rattle.lc_cluster.specs.Cluster.{IsSeatAt};
 
-use lc_adopt::into_world;
 use lc_cluster::Cluster;
 use lc_core::World;
 use lc_disk::Area;
@@ -13,6 +12,7 @@ use lc_node::NodeFault;
 use lc_node_fixture::recovered;
 use lc_record::Geometry;
 use lc_stage::CommitSeat;
+use lc_store::into_world;
 use std::alloc::{AllocError, Global};
 use std::sync::Wait;
 use std::test::Fail;

@@ -10,6 +10,8 @@ mod fault_texts;
 #[cfg(test)]
 mod files;
 #[cfg(test)]
+mod heap;
+#[cfg(test)]
 mod logs;
 #[cfg(test)]
 mod pages;

@@ -4,8 +4,9 @@ ghost use Rattle.std.specs.Prelude.{◌≡◌, [], ◌∷◌, IfOk};
 use crate::expect::equal;
 use lc_page::{PageText, PageVector};
 use lc_record::{Items, Lock, RangeData, Record};
-use lc_token::{HoldBack, Received, Token, TokenPlace};
-use lc_trunc::{KnownClean, Unclean, dirty_pages, may_reset};
+use lc_token::{
+    HoldBack, KnownClean, Received, Token, TokenPlace, Unclean, dirty_pages, may_reset,
+};
 use std::alloc::{AllocError, Global};
 use std::process::Abort;
 use std::test::Fail;

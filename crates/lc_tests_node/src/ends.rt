@@ -1,11 +1,11 @@
 //! A node that ends, and leaves a store.
 use crate::expect::{equal, holds};
 use crate::stores::{HELLO, LEAST_WORDS, opened_on_zeros};
-use lc_adopt::node_into_world;
 use lc_committer::Committer;
 use lc_core::FlushProgress;
 use lc_node::{Commit, Mode, Put};
 use lc_node_fixture::recovered;
+use lc_store::node_into_world;
 use std::test::*;
 
 const LAST: Put<'static> = Put {

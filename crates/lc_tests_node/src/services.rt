@@ -1,10 +1,9 @@
 //! Services that keep nodes in order beside a thread that commits.
 use crate::stores::{HELLO, LEAST_WORDS, Pair, opened_on_zeros, opened_pair};
-use lc_committer::Committer;
+use lc_committer::{Committer, ShutdownSignal, Upkeep, keep_member, keep_node};
 use lc_disk::MemArea;
 use lc_node::{Commit, Mode, Node, Pumped, Put};
 use lc_node_fixture::WORDS;
-use lc_service::{ShutdownSignal, Upkeep, keep_member, keep_node};
 use std::rt::Clock;
 use std::sync::Wait;
 use std::test::*;

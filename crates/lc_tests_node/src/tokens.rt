@@ -1,9 +1,8 @@
 //! A node that gets the token of a segment.
 use crate::expect::{equal, holds};
 use crate::stores::{HELLO, opened_pair};
-use lc_committer::Committer;
+use lc_committer::{Committer, acquire};
 use lc_node::{Commit, Mode, Put};
-use lc_service::acquire;
 use std::test::*;
 
 #[test]

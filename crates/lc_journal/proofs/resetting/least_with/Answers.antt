@@ -2,9 +2,9 @@ use Rattle.std.proofs.Common.{◌≡◌, ◌-◌, ◌<◌, ◌++◌, ℕ, suc, L
 use Rattle.std.proofs.lemmas.Option.{none-some}
 use Rattle.lc_record.specs.declared.record.Lock.{Lock}
 use Rattle.lc_record.proofs.ListLemmas.{slice_get_some as some_at}
-use Rattle.lc_trunc.specs.KnownClean.{known as known_of}
-use Rattle.lc_trunc.specs.Reset.{above, lesser}
-use Rattle.lc_trunc.specs.declared.unclean.Unclean.{Unclean}
+use Rattle.lc_token.specs.KnownClean.{known as known_of}
+use Rattle.lc_token.specs.Reset.{above, lesser}
+use Rattle.lc_token.specs.declared.unclean.Unclean.{Unclean}
 use Rattle.lc_settled.specs.Settled.{least_unclean}
 use Rattle.lc_journal.proofs.Sealing.{drop_all, least_next}
 use Rattle.lc_journal.proofs.resetting.least_with.Goals as goal

@@ -1,5 +1,5 @@
 use Rattle.std.proofs.Common.{◌≡◌, ℕ, ◌<◌, ◌≤◌}
-use Rattle.lc_trunc.specs.KnownClean.{KnowsNothing, known as known_of}
+use Rattle.lc_token.specs.KnownClean.{KnowsNothing, known as known_of}
 use Rattle.lc_desk.specs.Blank.{AreFreshSlots}
 use Rattle.lc_events.specs.Fresh.{known_first}
 use Rattle.lc_events.proofs.node_state.NodeState.fill.Given as goal

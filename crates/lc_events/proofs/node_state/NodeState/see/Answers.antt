@@ -3,7 +3,7 @@ use Rattle.std.specs.Prelude.{MatchOption, option_and_then}
 use Rattle.std.specs.Option.{option_copied}
 use Rattle.std.proofs.lemmas.Option.{slice_get_read}
 use Rattle.lc_token.specs.declared.token.Token.{Token}
-use Rattle.lc_trunc.specs.KnownClean.{Sees}
+use Rattle.lc_token.specs.KnownClean.{Sees}
 use Rattle.lc_record.proofs.ListLemmas.{slice_get-map_some as get-map}
 use Rattle.lc_desk.specs.Here.{beside}
 use Rattle.lc_desk.specs.declared.segment_copy.SegmentCopy.{SegmentCopy}

@@ -2,7 +2,7 @@ use Rattle.std.proofs.Common.{◌≡◌, ◌-◌, ◌<◌, ◌≤◌, ℕ, suc, 
 use Rattle.lc_record.specs.declared.record.Record.{Record}
 use Rattle.lc_record.proofs.ListLemmas.{slice_get-take as get_take, drop-take_same as nothing_behind}
 use Rattle.lc_model.specs.Stored.{records_of}
-use Rattle.lc_trunc.specs.KnownClean.{known as known_of}
+use Rattle.lc_token.specs.KnownClean.{known as known_of}
 use Rattle.lc_journal.specs.Records.{count_of, front_of}
 use Rattle.lc_settled.specs.Settled.{least_unclean, locks_in}
 use Rattle.lc_journal.proofs.FoundByNumber.{kept_at}

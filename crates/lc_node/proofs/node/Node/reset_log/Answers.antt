@@ -1,7 +1,7 @@
 use Rattle.std.proofs.Common.{rules, ◌≡◌, false, [], Err, refl, sym, subst, inl, inr}
 use Rattle.std.specs.Prelude.{◌⊎◌, IfErr}
 use Rattle.std.proofs.lemmas.Result.{IfErr-weaker as if_err, IfOk-weaker as if_ok}
-use Rattle.lc_log_side.specs.Ended.{LacksRoom}
+use Rattle.lc_log_side.specs.EndedRoom.{LacksRoom}
 use Rattle.lc_log_side.specs.LogView.{LogView}
 use Rattle.lc_log_side.specs.Resets.{CanReset, Empties, IsUnemptied}
 use Rattle.lc_node.specs.Resets.{IsSameInRoom}

@@ -1,7 +1,7 @@
 use Rattle.std.proofs.Common.{rules, ◌≡◌, ◌∷◌, [], ◌++◌, List, length, sym, ap, ◌∙◌, arith}
 use Rattle.std.proofs.lemmas.List.{length-append}
 use Rattle.lc_record.specs.declared.part.Part.{Part}
-use Rattle.lc_token.specs.Backlog.{above}
+use Rattle.lc_token.specs.Backlog.{parts_above}
 use Rattle.lc_token.proofs.BacklogLemmas.{length_above}
 use Rattle.lc_tx.specs.Image.{laid_over}
 use Rattle.lc_applied.specs.AppliedParts.{laid_parts}
@@ -11,7 +11,7 @@ use Rattle.lc_segments.proofs.seg_side.SegSide.apply.Goals as goal
 pub catch_up-requires-clause-room : goal.catch_up-requires-clause-room
 catch_up-requires-clause-room g c = let old = c.args.self.now in let part : Part = c.args.part in
     let applied : c.lay_part.new.self.applied ≡ old.applied ++ part ∷ [] = search rules in
-    let kept : c.lay_part.new.self.backlog.kept ≡ above part.seq old.backlog.kept = search rules in
+    let kept : c.lay_part.new.self.backlog.kept ≡ parts_above part.seq old.backlog.kept = search rules in
     let room : c.lay_part.new.self.room ≡ old.room = search rules in
     let asked = c.requires.room in
     let one = ap length applied in let two = length-append old.applied (part ∷ []) in
