@@ -3,6 +3,7 @@
 #   make prove       proves and builds the program and the store within the library. This alone needs the kit.
 #   make             the libraries, the program and lcrvm.pc, in build/
 #   make install     with PREFIX=/usr/local, DESTDIR, and BINDIR, LIBDIR, INCLUDEDIR, MANDIR, DOCDIR, COMPLETIONDIR
+#   make install-strip   the same, without the symbols of the program and of the shared library
 #   make uninstall   takes away what install has put there
 #   make python      the Python package with the library within, as a wheel in build/wheel/
 #   make dist        build/lcrvm-VERSION.tar.gz, from which all of it is installed without the kit
@@ -19,7 +20,7 @@ STORE ?= crates/lc_c/out/liblc_c.a
 HEAP ?= build/liblibc_c.a
 PROVED ?= build/proved
 
-CFLAGS ?= -O2
+CFLAGS ?= -O2 -fstack-protector-strong -U_FORTIFY_SOURCE -D_FORTIFY_SOURCE=2
 AR ?= ar
 LD ?= ld
 OBJCOPY ?= objcopy

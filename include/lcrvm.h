@@ -17,8 +17,17 @@
    - LCRVM_FORKED: this process is a forked child of the one that opened the store.
 
    Numbers. Offsets and lengths are in bytes, places and lengths in a log in words of 8 bytes, times in milliseconds.
-   Of no segments, or of no bytes, the pointer may be NULL. A store that is NULL, and a pointer that is NULL and may
-   not be, are LCRVM_MISUSE.
+   The pointer to no segments, or to no bytes, may be NULL. A store that is NULL, and a pointer that is NULL and may
+   not be, are LCRVM_MISUSE. A segment that a list names twice is one segment.
+
+   Structures. Options, a geometry, a fault and counters begin with `size`, which the program sets to the structure's
+   sizeof, and it clears the other fields: struct lcrvm_fault fault = {.size = sizeof fault}. So fields can be added at
+   the end. A size below that of the first version is LCRVM_MISUSE, and so is a field that is set and that this
+   library does not know; then nothing is done.
+
+   Names. Calls on transactions have two families. lcrvm_begin, lcrvm_commit and lcrvm_abort hand a transaction out and
+   take it back. lcrvm_begin_transaction, lcrvm_set_range, lcrvm_end_transaction and lcrvm_abort_transaction have the
+   names of RVM's own calls, and a thread that the caller chooses.
 
    Threads. Each call may come from any thread, but none on a store after its lcrvm_close has begun. A transaction is
    used by one thread at a time, and stays open where its thread ends. Threads that flush at once share one flush, and
@@ -46,12 +55,18 @@
 extern "C" {
 #endif
 
+/* The version of this header. A program that wants that of the library asks lcrvm_version. */
+#define LCRVM_VERSION "0.1.0"
+#define LCRVM_VERSION_MAJOR 0
+#define LCRVM_VERSION_MINOR 1
+#define LCRVM_VERSION_PATCH 0
+
 enum lcrvm_status {
     LCRVM_OK = 0,
 
     /* Refusals, by their numbers. After the colon are the fields of the fault that each has. */
     LCRVM_DOWN = 1,             /* the store is down */
-    LCRVM_UNKNOWN = 2,          /* a number is outside the geometry, or no record has it */
+    LCRVM_UNKNOWN = 2,          /* a number is outside the geometry, or no record has it: text */
     LCRVM_HALTED = 3,           /* a device of the node has failed */
     LCRVM_OUT_OF_TURN = 4,      /* a transaction is open already, or none is; so it is with tokens */
     LCRVM_BUSY = 5,             /* another transaction has the segment's lock: segment, or 0 where no thread is free */
@@ -73,7 +88,7 @@ enum lcrvm_status {
     LCRVM_NOT_NEWER = 21,       /* the page on the device has all of the segment's numbers */
     LCRVM_UNCLEAN = 22,         /* a record of the log may not be on the pages: segment, sequence */
     LCRVM_ROUNDS_SPENT = 23,    /* the log has had its last round */
-    LCRVM_DEVICE_FAULT = 24,    /* a file failed, or could not be made or opened: text */
+    LCRVM_DEVICE_FAULT = 24,    /* a file failed, or could not be made or opened: error, text */
     LCRVM_BAD_GEOMETRY = 25,    /* an area has another length, or a record in it is of another node: area; or the folder
                                    states another size, whose files differ from that area on: area, text */
     LCRVM_TWICE = 26,           /* two records have the same number: segment, sequence */
@@ -84,22 +99,25 @@ enum lcrvm_status {
     LCRVM_STORE_IN_USE = 65, /* the store is open already, or one of its files by another folder: text */
     LCRVM_NO_STORE = 66,     /* the files do not fit together, so there is no store as found: text */
     LCRVM_EXISTS = 67,       /* something stands under a name that a store has: text */
-    LCRVM_MISUSE = 68,       /* an argument is NULL that may not be */
+    LCRVM_MISUSE = 68,       /* an argument is NULL that may not be, or the size of a structure is none: text */
     LCRVM_FORKED = 69        /* the store is that of a process of which this one is a forked child */
 };
 
 /* Why a call did nothing. Fields that its status does not name are 0, and the text is empty. */
 struct lcrvm_fault {
+    uint32_t size; /* of this structure, in bytes */
     enum lcrvm_status status;
+    int error;     /* the system's number, as errno has it; 0 if it gave none */
     bool has_area; /* of LCRVM_OUT_OF_SEGMENT, which may have an area or none */
     uint64_t segment, sequence, applied, area, words, tail, need;
-    /* The name of the file that failed and the system's reason, and a line of each other file that something is to be
-       said of. Cut short. */
+    /* The file or the folder that failed and the system's reason, and a line for each other file that something is to
+       be said of; or the number that is outside. Cut short. */
     char text[256];
 };
 
 /* How large a store is. */
 struct lcrvm_geometry {
+    uint32_t size;     /* of this structure, in bytes */
     uint32_t nodes;    /* 1 to 8 */
     uint32_t threads;  /* of a node, as many transactions as may be open there: 1 to 16 */
     uint32_t segments; /* 1 to 16 */
@@ -108,15 +126,32 @@ struct lcrvm_geometry {
 };
 
 struct lcrvm_options {
+    uint32_t size; /* of this structure, in bytes */
     /* NULL: as the store says; of lcrvm_create 1 node, 16 threads, 4 segments of 64 pages, and 4,096 words. */
     const struct lcrvm_geometry *geometry;
-    /* Where there is no geometry, the threads of a node, which no file says; 0 for 16. */
+    /* Without a geometry, the threads of a node, which no file says; 0 for 16. */
     uint32_t threads;
+    /* How long lcrvm_open waits for a store that is open elsewhere: 0 for not at all, UINT32_MAX for as long as it
+       takes. */
+    uint32_t milliseconds;
 };
 
 /* Where a commit's record stands in its node's log, and how long it is, in words. No words: no range was set. */
-struct lcrvm_commit {
+struct lcrvm_record {
     uint64_t place, words;
+};
+
+/* What a node has done since the store was opened. */
+struct lcrvm_counters {
+    uint32_t size;                /* of this structure, in bytes */
+    uint32_t open;                /* transactions that are open now */
+    uint64_t log_words;           /* of its log, that records have now */
+    uint64_t commits;             /* that have a record */
+    uint64_t flushes;             /* that made records stable */
+    uint64_t flushed;             /* records that these made stable; several commits share a flush */
+    uint64_t truncations;         /* of its log */
+    uint64_t waits;               /* begins that waited for other transactions */
+    uint64_t longest_wait;        /* of these, in microseconds */
 };
 
 enum lcrvm_delivery { LCRVM_APPLIED, LCRVM_HELD_BACK, LCRVM_IGNORED };
@@ -127,8 +162,8 @@ struct lcrvm_delivered {
     uint64_t applied;
 };
 
-/* The thread of no transaction. */
-enum { LCRVM_NO_THREAD = 0xffff };
+/* The number of no transaction. */
+enum { LCRVM_NO_TRANSACTION = 0xffff };
 
 struct lcrvm_store;
 
@@ -143,8 +178,9 @@ enum lcrvm_status lcrvm_create(const char *folder, const struct lcrvm_options *o
 
 /* Opens the store in a folder, for this process alone, and recovers it: each commit that was acknowledged is there.
    Options and fault may be NULL. Where it is not opened *store is NULL, and the fault says why: MISUSE; UNKNOWN where
-   a number of the options is outside its range; NO_STORE; STORE_IN_USE; NO_MEMORY; DEVICE_FAULT; BAD_GEOMETRY, GAP,
-   TWICE or OUT_OF_SEGMENT where the recovery is refused. An opening that is refused can be tried again.
+   a number of the options is outside its range; NO_STORE; STORE_IN_USE, with the process that has it if the system
+   tells; NO_MEMORY; DEVICE_FAULT; BAD_GEOMETRY, GAP, TWICE or OUT_OF_SEGMENT where the recovery is refused. An opening
+   that is refused can be tried again. A folder that is not there is NO_STORE.
 
    Without a geometry the store has the size that its file lcrvm.store states, and then none of its files may be
    missing; in a folder without that file, the size of the files which there are. Where a file has failed before,
@@ -171,63 +207,69 @@ enum lcrvm_status lcrvm_copy(struct lcrvm_store *store, const char *folder);
 
 /* ---- Transactions of a program's threads */
 
-/* Begins a transaction at a node, locks segments for writing and others for reading, and hands out its thread: one
-   that no other transaction of the node has. Where another transaction has one of the segments, or all threads of
-   the node are taken, it waits, so many milliseconds at most: 0 for not at all, UINT32_MAX for as long as it
-   takes. Who came first is served first. UNKNOWN, NOT_HERE; BUSY where the time is over, and at once where the
-   calling thread would wait for itself: for a transaction of its own, or for a thread that waits for one. Then
-   *thread is LCRVM_NO_THREAD. */
-enum lcrvm_status lcrvm_begin(struct lcrvm_store *store, uint32_t node, uint32_t *thread, const uint32_t *segments,
-                              size_t count, const uint32_t *reading, size_t reading_count, uint32_t milliseconds);
+/* Begins a transaction at a node, locks segments for writing and others for reading, and hands out its number, which
+   no other open transaction of the node has. Where another transaction has one of the segments, or the node has no
+   number left, it waits, so many milliseconds at most: 0 for not at all, UINT32_MAX for as long as it takes. Who came
+   first is served first. UNKNOWN, NOT_HERE; BUSY where the time is over, and at once where the calling thread would
+   wait for itself: for a transaction of its own, or for a thread that waits for one. Then *transaction is
+   LCRVM_NO_TRANSACTION. */
+enum lcrvm_status lcrvm_begin(struct lcrvm_store *store, uint32_t node, uint32_t *transaction,
+                              const uint32_t *segments, size_t count, const uint32_t *reading, size_t reading_count,
+                              uint32_t milliseconds);
 
 /* Says that the transaction is about to change these bytes of a segment, and writes them: lcrvm_set_range and
    lcrvm_write in one, or neither of them. Of no bytes nothing is asked of the store. */
-enum lcrvm_status lcrvm_put(struct lcrvm_store *store, uint32_t node, uint32_t thread, uint32_t segment,
+enum lcrvm_status lcrvm_put(struct lcrvm_store *store, uint32_t node, uint32_t transaction, uint32_t segment,
                             uint32_t offset, const void *bytes, uint32_t length);
 
-/* Commits the transaction; *thread is LCRVM_NO_THREAD then. With `flush` it answers once the commit is stable, and
-   all that the transaction may have read. `commit` may be NULL. UNKNOWN, OUT_OF_TURN where there is no such
-   transaction. SEQUENCE_SPENT, TOO_LONG, SEALED, FULL, NO_MEMORY: the transaction is open as before, and so is
-   *thread. DEVICE_FAULT: the store is over, and with it the transaction; *thread is LCRVM_NO_THREAD.
+/* Commits the transaction; *transaction is LCRVM_NO_TRANSACTION then. With `flush` it answers once the commit is
+   stable, and all that the transaction may have read. `record` may be NULL. UNKNOWN, OUT_OF_TURN where there is no such
+   transaction. SEQUENCE_SPENT, TOO_LONG, SEALED, FULL, NO_MEMORY: the transaction is open as before, and *transaction
+   is its number. DEVICE_FAULT: the store is over, and with it the transaction; *transaction is LCRVM_NO_TRANSACTION.
+
+   A transaction that only read ends by lcrvm_commit or by lcrvm_abort, which are the same to it but for `flush`: with
+   it the commit answers once all that was read is stable. Either gives its locks back.
 
    A log that is full is emptied first, also beside other transactions that are open, to which it is as if nothing
    had been. So FULL is the answer only where that cannot help: the record is longer than the log, or the
    truncation is refused, as UNCLEAN where a token is elsewhere. */
-enum lcrvm_status lcrvm_commit(struct lcrvm_store *store, uint32_t node, uint32_t *thread, bool flush,
-                               struct lcrvm_commit *commit);
+enum lcrvm_status lcrvm_commit(struct lcrvm_store *store, uint32_t node, uint32_t *transaction, bool flush,
+                               struct lcrvm_record *record);
 
-/* Ends the transaction without a commit: the bytes are as before it, and *thread is LCRVM_NO_THREAD. It takes no
-   memory. UNKNOWN, OUT_OF_TURN where there is no such transaction, and then *thread is as before. */
-enum lcrvm_status lcrvm_abort(struct lcrvm_store *store, uint32_t node, uint32_t *thread);
+/* Ends the transaction without a commit: the bytes are as before it, and *transaction is LCRVM_NO_TRANSACTION. It
+   takes no memory. It does nothing and is OK if `transaction` is NULL or *transaction is LCRVM_NO_TRANSACTION, so an
+   end that cleans up may call it whatever came before. UNKNOWN, OUT_OF_TURN where there is no such transaction, and
+   then *transaction is as before. */
+enum lcrvm_status lcrvm_abort(struct lcrvm_store *store, uint32_t node, uint32_t *transaction);
 
 /* ---- Transactions, by threads of the caller's choice or of lcrvm_begin */
 
-/* Begins a transaction of a thread, from 0 on, and locks segments for writing and others for reading. It does not
-   wait, and takes no memory. The transaction belongs to no thread of the program. UNKNOWN, OUT_OF_TURN, NOT_HERE,
-   BUSY. */
+/* Begins the transaction of a thread of the node, from 0 on, whose number it has, and locks segments for writing and
+   others for reading. It does not wait, and takes no memory. The transaction belongs to no thread of the program.
+   UNKNOWN, OUT_OF_TURN, NOT_HERE, BUSY. */
 enum lcrvm_status lcrvm_begin_transaction(struct lcrvm_store *store, uint32_t node, uint32_t thread,
                                           const uint32_t *segments, size_t count, const uint32_t *reading,
                                           size_t reading_count);
 
 /* Says that the transaction is about to change these bytes of a segment that it locked for writing.
    UNKNOWN, OUT_OF_TURN, NOT_LOCKED, READ_ONLY, EMPTY_RANGE, OUT_OF_SEGMENT, TOO_MANY_RANGES, NO_MEMORY. */
-enum lcrvm_status lcrvm_set_range(struct lcrvm_store *store, uint32_t node, uint32_t thread, uint32_t segment,
+enum lcrvm_status lcrvm_set_range(struct lcrvm_store *store, uint32_t node, uint32_t transaction, uint32_t segment,
                                   uint32_t offset, uint32_t length);
 
 /* Writes these bytes inside the transaction's ranges. Of no bytes nothing is asked of the store.
    UNKNOWN, OUT_OF_TURN, NOT_LOCKED, READ_ONLY, OUT_OF_SEGMENT, NO_RANGE. */
-enum lcrvm_status lcrvm_write(struct lcrvm_store *store, uint32_t node, uint32_t thread, uint32_t segment,
+enum lcrvm_status lcrvm_write(struct lcrvm_store *store, uint32_t node, uint32_t transaction, uint32_t segment,
                               uint32_t offset, const void *bytes, uint32_t length);
 
 /* Reads bytes of a segment that the transaction locked, with what it wrote. Where it is refused `bytes` are as
    before. UNKNOWN, OUT_OF_TURN, NOT_LOCKED, OUT_OF_SEGMENT. */
-enum lcrvm_status lcrvm_read(struct lcrvm_store *store, uint32_t node, uint32_t thread, uint32_t segment,
+enum lcrvm_status lcrvm_read(struct lcrvm_store *store, uint32_t node, uint32_t transaction, uint32_t segment,
                              uint32_t offset, void *bytes, uint32_t length);
 
 /* Commits the transaction, as lcrvm_commit does. With `flush` the node's log is flushed also where the commit is
    refused, and what the commit answered is answered. */
 enum lcrvm_status lcrvm_end_transaction(struct lcrvm_store *store, uint32_t node, uint32_t thread, bool flush,
-                                        struct lcrvm_commit *commit);
+                                        struct lcrvm_record *record);
 
 /* Ends the transaction without a commit: the bytes are as before it.
    UNKNOWN, OUT_OF_TURN. */
@@ -249,6 +291,10 @@ enum lcrvm_status lcrvm_truncate(struct lcrvm_store *store, uint32_t node, uint6
    Until then a record stays in memory. Each truncation does it for its node by itself. UNKNOWN. */
 enum lcrvm_status lcrvm_trim(struct lcrvm_store *store, uint32_t node, uint64_t *count);
 
+/* Counts what the node has done since the store was opened. The program sets the size of `counters`. It asks for no
+   memory and no file. MISUSE, UNKNOWN. */
+enum lcrvm_status lcrvm_stats(struct lcrvm_store *store, uint32_t node, struct lcrvm_counters *counters);
+
 /* ---- Several nodes. Each segment has a token, which is at one node, and there alone it can be locked. */
 
 /* Takes the segment's token from the node.
@@ -266,6 +312,9 @@ enum lcrvm_status lcrvm_deliver(struct lcrvm_store *store, uint32_t node, uint64
 
 /* ---- What is asked of no store */
 
+/* The version of the library, as "0.1.0". */
+const char *lcrvm_version(void);
+
 /* The fault of the last call of the calling thread, on whatever store, that did not answer LCRVM_OK; of none, one
    with LCRVM_OK. The store may be NULL. It is the thread's own, and good until its next call. */
 const struct lcrvm_fault *lcrvm_fault_of(const struct lcrvm_store *store);
@@ -273,7 +322,7 @@ const struct lcrvm_fault *lcrvm_fault_of(const struct lcrvm_store *store);
 /* How large the store is; of NULL, NULL. */
 const struct lcrvm_geometry *lcrvm_geometry_of(const struct lcrvm_store *store);
 
-/* A status in words, as `Full` or `store in use`. */
+/* A status in words, as `Full` or `store in use`; of a number that is none, `no status`. */
 const char *lcrvm_status_text(enum lcrvm_status status);
 
 #ifdef __cplusplus

@@ -1,12 +1,13 @@
 #!/bin/sh
-# Packs build/lcrvm-VERSION.tar.gz, from which all is installed without the kit: what stands in build/, the header, the
-# manual pages, the completion, the licenses, a Makefile, and the file PROOF.
+# Packs build/lcrvm-VERSION.tar.gz, from which all is installed without the kit: what stands in build/, the headers, the
+# manual pages, the guide, the list of changes, the completion, the licenses, a Makefile, and the file PROOF.
 #
 # usage: packaging/dist.sh VERSION PROVED PROGRAM STORE HEAP
 #   PROVED    the folder in which `make prove` keeps what the checker said
 #
 # The program and the archive of the store have to be those that were proved, by their checksums.
 set -eu
+umask 022 # the modes of what is packed are these, whoever packs it
 
 cd "$(dirname "$0")/.."
 version=$1
@@ -42,10 +43,10 @@ rm -rf build/dist
 mkdir -p "$folder/include" "$folder/man" "$folder/completion"
 install -m 755 build/lcrvm "$folder/lcrvm"
 install -m 644 "build/liblcrvm.so.$version" build/liblcrvm.a build/wheel/*.whl "$folder"
-install -m 644 include/lcrvm.h "$folder/include/lcrvm.h"
+install -m 644 include/lcrvm.h include/lcrvm.hpp "$folder/include"
 install -m 644 man/lcrvm.1 man/lcrvm.3 "$folder/man"
 install -m 644 completion/lcrvm.bash "$folder/completion/lcrvm.bash"
-install -m 644 LICENSE-MIT LICENSE-APACHE "$folder"
+install -m 644 LICENSE-MIT LICENSE-APACHE CHANGELOG.md docs/GUIDE.md "$folder"
 {
     echo '# make install      with PREFIX=/usr/local, DESTDIR, and BINDIR, LIBDIR, INCLUDEDIR, MANDIR, DOCDIR, COMPLETIONDIR'
     echo '# make uninstall    takes away what install has put there'

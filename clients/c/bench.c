@@ -31,6 +31,11 @@
 #include <time.h>
 #include <unistd.h>
 
+/* A size, by its numbers. */
+#define SIZED(of_nodes, of_threads, of_segments, of_pages, of_words)                                                   \
+    {.size = sizeof(struct lcrvm_geometry), .nodes = of_nodes, .threads = of_threads, .segments = of_segments,         \
+     .pages = of_pages, .words = of_words}
+
 enum {
     PAGES = 64,
     SEGMENT_BYTES = PAGES * 256,
@@ -146,7 +151,7 @@ static void choose_changes(struct bench *bench, int count)
 
 static void open_store(struct bench *bench)
 {
-    struct lcrvm_fault fault;
+    struct lcrvm_fault fault = {.size = sizeof fault};
     if (lcrvm_open(bench->folder, &bench->options, &bench->store, &fault) != LCRVM_OK) {
         fprintf(stderr, "bench: %s %s\n", lcrvm_status_text(fault.status), fault.text);
         exit(1);
@@ -548,11 +553,11 @@ static void measure_crew(struct bench *bench, int threads, int rounds, double ru
 
 static void measure_threads(const char *room, int rounds, double run)
 {
-    static const struct lcrvm_geometry geometry = {1, MOST_WORKERS, MOST_WORKERS, PAGES, LOG_WORDS};
+    static const struct lcrvm_geometry geometry = SIZED(1, MOST_WORKERS, MOST_WORKERS, PAGES, LOG_WORDS);
     static struct bench bench;
     char path[PATH_BYTES + 8];
     snprintf(bench.folder, sizeof bench.folder, "%s/threads", room);
-    bench.options = (struct lcrvm_options){.geometry = &geometry};
+    bench.options = (struct lcrvm_options){.size = sizeof(struct lcrvm_options), .geometry = &geometry};
     bench.seed = UINT64_C(0x9e3779b97f4a7c15);
     need(&bench, lcrvm_create(bench.folder, &bench.options, NULL));
     open_store(&bench);
@@ -595,7 +600,7 @@ static void remove_files(const struct bench *bench, const char *room)
 
 int main(int count, char *words[])
 {
-    static const struct lcrvm_geometry geometry = {1, 1, 1, PAGES, LOG_WORDS};
+    static const struct lcrvm_geometry geometry = SIZED(1, 1, 1, PAGES, LOG_WORDS);
     static struct bench bench;
     char room[PATH_BYTES / 2];
     bool is_short = count > 1 && strcmp(words[1], "--short") == 0;
@@ -610,7 +615,7 @@ int main(int count, char *words[])
     snprintf(bench.folder, sizeof bench.folder, "%s/store", room);
     snprintf(bench.hand.log_path, sizeof bench.hand.log_path, "%s/log", room);
     snprintf(bench.hand.pages_path, sizeof bench.hand.pages_path, "%s/pages", room);
-    bench.options = (struct lcrvm_options){.geometry = &geometry};
+    bench.options = (struct lcrvm_options){.size = sizeof(struct lcrvm_options), .geometry = &geometry};
     bench.seed = UINT64_C(0x9e3779b97f4a7c15);
     need(&bench, lcrvm_create(bench.folder, &bench.options, NULL));
     open_store(&bench);

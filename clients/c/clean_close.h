@@ -119,10 +119,10 @@ static bool make_older(const struct lcrvm_store *store, uint32_t line, const str
 /* Whether all that was written is stable, and so the names, which nobody has changed since the opening. */
 static bool is_all_stable(const struct lcrvm_store *store)
 {
-    const struct timespec *names = &store->names;
+    const struct timespec *named = &store->names;
     struct stat at;
     bool is_stable = store->stated.nodes > 0 && look_at_line(store, FOLDER_LINE, &at) &&
-                     at.st_mtim.tv_sec == names->tv_sec && at.st_mtim.tv_nsec == names->tv_nsec;
+                     at.st_mtim.tv_sec == named->tv_sec && at.st_mtim.tv_nsec == named->tv_nsec;
 
     for (uint32_t place = 0; place < store->areas; place++)
         is_stable = is_stable && store->stable[place];

@@ -1,7 +1,7 @@
 /* The descriptors that this process has open for stores. A child of a fork closes its copies, so that the locks end
    with the process whose store it is.
 
-   One lock is held across a fork, `list`. It is held else only while a descriptor is opened or closed, so a fork
+   One lock is held across a fork, `list_lock`. It is held else only while a descriptor is opened or closed, so a fork
    waits for no write or sync, and a child finds each descriptor in the list. No lock of a store is held across a
    fork: a child takes none. */
 #ifndef LCRVM_DESCRIPTORS_H
@@ -26,7 +26,7 @@ struct descriptors {
     struct descriptors *next;
 };
 
-static pthread_mutex_t list = PTHREAD_MUTEX_INITIALIZER;
+static pthread_mutex_t list_lock = PTHREAD_MUTEX_INITIALIZER;
 static struct descriptors *all_descriptors;
 static unsigned forks; /* so many forks led to this process; a child alone writes it, where it has one thread */
 static bool follows_forks;
@@ -42,12 +42,12 @@ static void close_file(int file)
 
 static void before_fork(void)
 {
-    pthread_mutex_lock(&list);
+    pthread_mutex_lock(&list_lock);
 }
 
 static void after_fork(void)
 {
-    pthread_mutex_unlock(&list);
+    pthread_mutex_unlock(&list_lock);
 }
 
 /* It unlocks nothing: the parent has the locks. */
@@ -60,7 +60,7 @@ static void in_child(void)
             kept->of[slot] = -1;
         }
     all_descriptors = NULL;
-    pthread_mutex_unlock(&list);
+    pthread_mutex_unlock(&list_lock);
 }
 
 /* As the library is loaded: there is no other thread that forks at once. */
@@ -73,10 +73,10 @@ static void keep_descriptors(struct descriptors *kept)
 {
     for (int slot = 0; slot < SLOTS; slot++)
         kept->of[slot] = -1;
-    pthread_mutex_lock(&list);
+    pthread_mutex_lock(&list_lock);
     kept->next = all_descriptors;
     all_descriptors = kept;
-    pthread_mutex_unlock(&list);
+    pthread_mutex_unlock(&list_lock);
 }
 
 /* The file is under no descriptor of the standard streams: what is printed would be written into it. */
@@ -97,12 +97,12 @@ static int open_kept(struct descriptors *kept, int slot, int beside, const char 
 {
     int file;
 
-    pthread_mutex_lock(&list);
+    pthread_mutex_lock(&list_lock);
     file = openat(beside, path, access | O_CLOEXEC | O_NONBLOCK | O_NOCTTY, 0666);
     kept->made = file >= 0;
     file = beside_standard_streams(file);
     kept->of[slot] = file;
-    pthread_mutex_unlock(&list);
+    pthread_mutex_unlock(&list_lock);
     return file;
 }
 
@@ -110,10 +110,10 @@ static void close_kept(struct descriptors *kept, int slot)
 {
     int reason = errno;
 
-    pthread_mutex_lock(&list);
+    pthread_mutex_lock(&list_lock);
     close_file(kept->of[slot]);
     kept->of[slot] = -1;
-    pthread_mutex_unlock(&list);
+    pthread_mutex_unlock(&list_lock);
     errno = reason;
 }
 
@@ -136,12 +136,12 @@ static void release_descriptors(struct descriptors *kept)
 
     for (int slot = 0; slot < SLOTS; slot++)
         unlock_kept(kept, slot);
-    pthread_mutex_lock(&list);
+    pthread_mutex_lock(&list_lock);
     while (*at != NULL && *at != kept)
         at = &(*at)->next;
     if (*at != NULL)
         *at = kept->next;
-    pthread_mutex_unlock(&list);
+    pthread_mutex_unlock(&list_lock);
 }
 
 #endif

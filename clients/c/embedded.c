@@ -3,8 +3,9 @@
 
    Each event of the store makes at most one call on one of its areas in memory: a write, or a sync. The same call is
    made on the area's file, by pwrite or fdatasync, before the event is answered; but a sync makes none where all that
-   was written to the file is stable. Where a call fails the store is given up: this call and each later one answer
-   LCRVM_DEVICE_FAULT, a file `fault` is left in the folder, and a recovery has what was acknowledged.
+   was written to the file is stable. The calls of a recovery are made in another order, by recovery.h. Where a call
+   fails the store is given up: this call and each later one answer LCRVM_DEVICE_FAULT, a file `fault` is left in the
+   folder, and a recovery has what was acknowledged.
 
    The size of a store stands in a file of its own, which is made before the others. So a store whose creation was
    cut, or that has lost a file, is not opened.
@@ -20,11 +21,13 @@
 #include "emptying.h"
 #include "logs.h"
 #include "new_files.h"
+#include "recovery.h"
 #include "renewed_files.h"
 #include "session.h"
 #include "statuses.h"
 #include "store.h"
 #include "store_files.h"
+#include "structures.h"
 #include "transactions.h"
 #include "waiting.h"
 
@@ -41,13 +44,20 @@
 
 enum lcrvm_status lcrvm_create(const char *folder, const struct lcrvm_options *options, struct lcrvm_fault *fault)
 {
-    const struct lcrvm_options *wanted = options != NULL ? options : &no_options;
+    struct lcrvm_options wanted;
+    struct lcrvm_geometry geometry;
+    enum lcrvm_status status;
 
+    if (!has_room(fault))
+        return no_room();
     if (folder == NULL)
-        return told_to(failed(LCRVM_MISUSE, ""), fault);
-    if (!is_wanted(wanted))
-        return told_to(failed(LCRVM_UNKNOWN, ""), fault);
-    return told_to(make_store(folder, size_of(wanted), NULL, &fault_here), fault);
+        return told_to(failed(LCRVM_MISUSE, "folder: NULL"), fault);
+    status = take_options(options, &wanted, &geometry);
+    if (status == LCRVM_OK)
+        status = look_at_numbers(&wanted);
+    if (status == LCRVM_OK)
+        status = make_store(folder, size_of(&wanted), NULL, &fault_here);
+    return told_to(status, fault);
 }
 
 /* ---- opening */
@@ -191,18 +201,6 @@ static enum lcrvm_status load_renewed(struct lcrvm_store *store)
     return status == LCRVM_OK ? load(store) : status;
 }
 
-static enum lcrvm_status recover(struct lcrvm_store *store)
-{
-    struct answer answer = {0};
-    enum lcrvm_status status = LCRVM_OK;
-
-    while (status == LCRVM_OK && answer.reply != RECOVERED) {
-        lcrvm_session_recover_step(&store->session, &answer);
-        status = all_mirrored(store, &answer);
-    }
-    return status;
-}
-
 /* Makes the file that states the size stable. */
 static enum lcrvm_status sync_size(struct lcrvm_store *store)
 {
@@ -229,7 +227,7 @@ static enum lcrvm_status sync_folder(struct lcrvm_store *store)
     enum lcrvm_status status = sync_size(store);
 
     if (status == LCRVM_OK && !make_stable(store->kept.of[FOLDER], fsync)) {
-        status = system_failed(&fault_here);
+        status = file_failed(&fault_here, folder_name);
         leave_mark(store->kept.of[FOLDER], &fault_here);
     }
     return status;
@@ -245,23 +243,24 @@ static enum lcrvm_status take_size(struct lcrvm_store *store, const struct lcrvm
     if (status != LCRVM_OK)
         return status;
     store->geometry = options->geometry != NULL ? *options->geometry : store->stated;
-    if (store->geometry.nodes == 0)
+    store->geometry.size = sizeof store->geometry;
+    if (store->stated.nodes == 0 && options->geometry != NULL)
+        status = look_for_store(store->kept.of[FOLDER], &fault_here);
+    else if (store->geometry.nodes == 0)
         status = find_size(store->kept.of[FOLDER], &store->geometry, &fault_here);
     store->areas = areas_of(&store->geometry);
     return status;
 }
 
-/* Fills a store whose folder and session are none yet. As found, no file is in a folder that is not there. */
+/* Fills a store whose folder and session are none yet. */
 static enum lcrvm_status open_in(struct lcrvm_store *store, const char *path, const struct lcrvm_options *options)
 {
     int folder = open_folder(&store->kept, FOLDER, AT_FDCWD, path);
     enum lcrvm_status status;
 
-    if (folder < 0 && errno == ENOENT && options->geometry == NULL)
-        return no_store(&fault_here, log_kind, 0, "is missing");
     if (folder < 0)
-        return system_failed(&fault_here);
-    status = lock_folder(folder, &fault_here);
+        return folder_failed(&fault_here, errno == ENOENT ? LCRVM_NO_STORE : LCRVM_DEVICE_FAULT, path);
+    status = lock_folder(folder, path, options->milliseconds, &fault_here);
     if (status == LCRVM_OK)
         status = take_size(store, options);
     if (status != LCRVM_OK)
@@ -307,21 +306,26 @@ static void free_store(struct lcrvm_store *store)
 enum lcrvm_status lcrvm_open(const char *folder, const struct lcrvm_options *options, struct lcrvm_store **store,
                              struct lcrvm_fault *fault)
 {
-    const struct lcrvm_options *wanted = options != NULL ? options : &no_options;
+    struct lcrvm_options wanted;
+    struct lcrvm_geometry geometry;
     struct lcrvm_store *opened;
     enum lcrvm_status status;
 
-    if (store == NULL)
-        return told_to(failed(LCRVM_MISUSE, ""), fault);
-    *store = NULL;
-    if (folder == NULL)
-        return told_to(failed(LCRVM_MISUSE, ""), fault);
-    if (!is_wanted(wanted))
-        return told_to(failed(LCRVM_UNKNOWN, ""), fault);
+    if (store != NULL)
+        *store = NULL;
+    if (!has_room(fault))
+        return no_room();
+    if (store == NULL || folder == NULL)
+        return told_to(failed(LCRVM_MISUSE, store == NULL ? "store: NULL" : "folder: NULL"), fault);
+    status = take_options(options, &wanted, &geometry);
+    if (status == LCRVM_OK)
+        status = look_at_numbers(&wanted);
+    if (status != LCRVM_OK)
+        return told_to(status, fault);
     opened = new_store();
     if (opened == NULL)
         return told_to(failed(LCRVM_NO_MEMORY, ""), fault);
-    status = open_in(opened, folder, wanted);
+    status = open_in(opened, folder, &wanted);
     if (status != LCRVM_OK) {
         free_store(opened);
         return told_to(status, fault);
@@ -372,6 +376,53 @@ static enum lcrvm_status done(struct lcrvm_store *store, enum lcrvm_status statu
     atomic_fetch_sub(&store->within, 1);
     pthread_mutex_unlock(&store->events);
     return told(status);
+}
+
+/* ---- the number that is outside of a store, where a call was refused for one */
+
+static enum lcrvm_status is_outside(const char *name, uint32_t number, uint32_t low, uint32_t high)
+{
+    char text[64];
+
+    snprintf(text, sizeof text, "%s %u: the store has %u to %u", name, (unsigned)number, (unsigned)low, (unsigned)high);
+    return failed(LCRVM_UNKNOWN, text);
+}
+
+/* Names the number to which a call was answered LCRVM_UNKNOWN, and hands every other status on. */
+static enum lcrvm_status named(const struct lcrvm_store *store, enum lcrvm_status status, uint32_t node,
+                               uint32_t transaction, uint32_t segment)
+{
+    const struct lcrvm_geometry *size = &store->geometry;
+
+    if (status != LCRVM_UNKNOWN)
+        return status;
+    if (node >= size->nodes)
+        return is_outside("node", node, 0, size->nodes - 1);
+    if (transaction >= size->threads)
+        return is_outside("transaction", transaction, 0, size->threads - 1);
+    if (!is_within(segment, 1, size->segments))
+        return is_outside("segment", segment, 1, size->segments);
+    return status;
+}
+
+/* The first number of the list that is no segment of the store, or 1. */
+static uint32_t first_outside(const struct lcrvm_store *store, const uint32_t *segments, size_t count)
+{
+    for (size_t i = 0; i < count; i++)
+        if (!is_within(segments[i], 1, store->geometry.segments))
+            return segments[i];
+    return 1;
+}
+
+/* Names the number of a wish in the same way. */
+static enum lcrvm_status named_of(const struct lcrvm_store *store, enum lcrvm_status status, const struct wish *wish,
+                                  uint32_t transaction)
+{
+    uint32_t segment = first_outside(store, wish->segments, wish->count);
+
+    if (segment == 1)
+        segment = first_outside(store, wish->reading, wish->reading_count);
+    return named(store, status, wish->node, transaction, segment);
 }
 
 /* ---- events, by a thread that has the lock. A slice of nothing has an address all the same. */
@@ -446,18 +497,19 @@ static enum lcrvm_status abort_now(struct lcrvm_store *store, uint32_t node, uin
 
 /* Gives the transaction its place in the log, and completes its record. */
 static enum lcrvm_status commit_now(struct lcrvm_store *store, uint32_t node, uint32_t thread,
-                                    struct lcrvm_commit *placed)
+                                    struct lcrvm_record *placed)
 {
     struct answer answer = {0};
     enum lcrvm_status status = restore(store, node, thread);
 
-    *placed = (struct lcrvm_commit){0, 0};
+    *placed = (struct lcrvm_record){0, 0};
     if (status != LCRVM_OK)
         return status;
     lcrvm_session_reserve(&store->session, bounded(node), bounded(thread), &answer);
     status = answered(store, &answer);
     if (status == LCRVM_OK && answer.reply == RESERVED) {
-        *placed = (struct lcrvm_commit){.place = answer.place, .words = answer.words};
+        *placed = (struct lcrvm_record){.place = answer.place, .words = answer.words};
+        store->counted[node].log_words = placed->place + placed->words;
         lcrvm_session_close_record(&store->session, bounded(node), bounded(thread), &answer);
         status = answered(store, &answer);
         store->records[node] += status == LCRVM_OK;
@@ -469,7 +521,7 @@ static enum lcrvm_status commit_now(struct lcrvm_store *store, uint32_t node, ui
 
 /* Commits by a thread that is at the files, and empties the log where it is still full. */
 static enum lcrvm_status commit_at_files(struct lcrvm_store *store, uint32_t node, uint32_t thread,
-                                         struct lcrvm_commit *placed)
+                                         struct lcrvm_record *placed)
 {
     enum lcrvm_status status = commit_now(store, node, thread, placed);
     struct lcrvm_fault full;
@@ -488,7 +540,7 @@ static enum lcrvm_status commit_at_files(struct lcrvm_store *store, uint32_t nod
 
 /* Commits, and empties the log first where it is full and has room for the record then. */
 static enum lcrvm_status commit_with_room(struct lcrvm_store *store, uint32_t node, uint32_t thread,
-                                          struct lcrvm_commit *placed)
+                                          struct lcrvm_record *placed)
 {
     enum lcrvm_status status = commit_now(store, node, thread, placed);
 
@@ -530,6 +582,8 @@ enum lcrvm_status lcrvm_close(struct lcrvm_store *store, struct lcrvm_fault *fau
 {
     enum lcrvm_status status;
 
+    if (!has_room(fault))
+        return no_room();
     if (store == NULL)
         return told_to(LCRVM_OK, fault);
     status = look_at_store(store);
@@ -579,7 +633,7 @@ enum lcrvm_status lcrvm_copy(struct lcrvm_store *store, const char *folder)
     enum lcrvm_status status;
 
     if (folder == NULL)
-        return misused();
+        return misused("folder: NULL");
     if (!enter(store))
         return not_entered();
     geometry = store->geometry;
@@ -613,20 +667,21 @@ static struct wish wish_of(uint32_t node, const uint32_t *segments, size_t count
     };
 }
 
-enum lcrvm_status lcrvm_begin(struct lcrvm_store *store, uint32_t node, uint32_t *thread, const uint32_t *segments,
-                              size_t count, const uint32_t *reading, size_t reading_count, uint32_t milliseconds)
+enum lcrvm_status lcrvm_begin(struct lcrvm_store *store, uint32_t node, uint32_t *transaction,
+                              const uint32_t *segments, size_t count, const uint32_t *reading, size_t reading_count,
+                              uint32_t milliseconds)
 {
     struct wish wish;
 
-    if (thread == NULL || !are_there(segments, count) || !are_there(reading, reading_count))
-        return misused();
-    *thread = LCRVM_NO_THREAD;
+    if (transaction == NULL || !are_there(segments, count) || !are_there(reading, reading_count))
+        return misused("transaction, segments or reading: NULL");
+    *transaction = LCRVM_NO_TRANSACTION;
     if (!enter(store))
         return not_entered();
     wish = wish_of(node, segments, count, reading, reading_count);
     wish.owner = this_thread();
     wish.has_another = has_begun(store, wish.owner, false);
-    return done(store, begin_waiting(store, &wish, thread, milliseconds));
+    return done(store, named_of(store, begin_waiting(store, &wish, transaction, milliseconds), &wish, 0));
 }
 
 enum lcrvm_status lcrvm_begin_transaction(struct lcrvm_store *store, uint32_t node, uint32_t thread,
@@ -636,55 +691,79 @@ enum lcrvm_status lcrvm_begin_transaction(struct lcrvm_store *store, uint32_t no
     struct wish wish;
 
     if (!are_there(segments, count) || !are_there(reading, reading_count))
-        return misused();
+        return misused("segments or reading: NULL");
     wish = wish_of(node, segments, count, reading, reading_count);
-    return enter(store) ? done(store, begin_now(store, thread, &wish)) : not_entered();
+    if (!enter(store))
+        return not_entered();
+    return done(store, named_of(store, begin_now(store, thread, &wish), &wish, thread));
 }
 
-enum lcrvm_status lcrvm_set_range(struct lcrvm_store *store, uint32_t node, uint32_t thread, uint32_t segment,
+enum lcrvm_status lcrvm_set_range(struct lcrvm_store *store, uint32_t node, uint32_t transaction, uint32_t segment,
                                   uint32_t offset, uint32_t length)
 {
-    return enter(store) ? done(store, set_range_now(store, node, thread, segment, offset, length)) : not_entered();
+    enum lcrvm_status status;
+
+    if (!enter(store))
+        return not_entered();
+    status = set_range_now(store, node, transaction, segment, offset, length);
+    return done(store, named(store, status, node, transaction, segment));
 }
 
-enum lcrvm_status lcrvm_write(struct lcrvm_store *store, uint32_t node, uint32_t thread, uint32_t segment,
+enum lcrvm_status lcrvm_write(struct lcrvm_store *store, uint32_t node, uint32_t transaction, uint32_t segment,
                               uint32_t offset, const void *bytes, uint32_t length)
 {
+    enum lcrvm_status status;
+
     if (!are_there(bytes, length))
-        return misused();
-    return enter(store) ? done(store, write_now(store, node, thread, segment, offset, bytes, length)) : not_entered();
+        return misused("bytes: NULL");
+    if (!enter(store))
+        return not_entered();
+    status = write_now(store, node, transaction, segment, offset, bytes, length);
+    return done(store, named(store, status, node, transaction, segment));
 }
 
-enum lcrvm_status lcrvm_put(struct lcrvm_store *store, uint32_t node, uint32_t thread, uint32_t segment,
+enum lcrvm_status lcrvm_put(struct lcrvm_store *store, uint32_t node, uint32_t transaction, uint32_t segment,
                             uint32_t offset, const void *bytes, uint32_t length)
 {
+    enum lcrvm_status status;
+
     if (!are_there(bytes, length))
-        return misused();
-    return enter(store) ? done(store, put_now(store, node, thread, segment, offset, bytes, length)) : not_entered();
+        return misused("bytes: NULL");
+    if (!enter(store))
+        return not_entered();
+    status = put_now(store, node, transaction, segment, offset, bytes, length);
+    return done(store, named(store, status, node, transaction, segment));
 }
 
-enum lcrvm_status lcrvm_read(struct lcrvm_store *store, uint32_t node, uint32_t thread, uint32_t segment,
+enum lcrvm_status lcrvm_read(struct lcrvm_store *store, uint32_t node, uint32_t transaction, uint32_t segment,
                              uint32_t offset, void *bytes, uint32_t length)
 {
+    enum lcrvm_status status;
+
     if (!are_there(bytes, length))
-        return misused();
-    return enter(store) ? done(store, read_now(store, node, thread, segment, offset, bytes, length)) : not_entered();
+        return misused("bytes: NULL");
+    if (!enter(store))
+        return not_entered();
+    status = read_now(store, node, transaction, segment, offset, bytes, length);
+    return done(store, named(store, status, node, transaction, segment));
 }
 
 enum lcrvm_status lcrvm_abort_transaction(struct lcrvm_store *store, uint32_t node, uint32_t thread)
 {
-    return enter(store) ? done(store, abort_now(store, node, thread)) : not_entered();
+    if (!enter(store))
+        return not_entered();
+    return done(store, named(store, abort_now(store, node, thread), node, thread, 1));
 }
 
-enum lcrvm_status lcrvm_abort(struct lcrvm_store *store, uint32_t node, uint32_t *thread)
+enum lcrvm_status lcrvm_abort(struct lcrvm_store *store, uint32_t node, uint32_t *transaction)
 {
     enum lcrvm_status status;
 
-    if (thread == NULL)
-        return misused();
-    status = lcrvm_abort_transaction(store, node, *thread);
+    if (transaction == NULL || *transaction == LCRVM_NO_TRANSACTION)
+        return told(LCRVM_OK);
+    status = lcrvm_abort_transaction(store, node, *transaction);
     if (status == LCRVM_OK || status == LCRVM_DEVICE_FAULT)
-        *thread = LCRVM_NO_THREAD;
+        *transaction = LCRVM_NO_TRANSACTION;
     return status;
 }
 
@@ -695,47 +774,51 @@ static enum lcrvm_status flush_after(struct lcrvm_store *store, uint32_t node, b
     return flush && !store->over ? flush_shared(store, node) : LCRVM_OK;
 }
 
-static enum lcrvm_status commit_and_flush(struct lcrvm_store *store, uint32_t node, uint32_t *thread, bool flush,
-                                          struct lcrvm_commit *commit)
+static enum lcrvm_status commit_and_flush(struct lcrvm_store *store, uint32_t node, uint32_t *transaction, bool flush,
+                                          struct lcrvm_record *record)
 {
-    struct lcrvm_commit placed;
-    enum lcrvm_status status = commit_with_room(store, node, *thread, &placed);
+    struct lcrvm_record placed;
+    enum lcrvm_status status = commit_with_room(store, node, *transaction, &placed);
 
     if (status == LCRVM_OK) {
-        *thread = LCRVM_NO_THREAD;
+        *transaction = LCRVM_NO_TRANSACTION;
         status = flush_after(store, node, flush);
     }
-    if (status == LCRVM_OK && commit != NULL)
-        *commit = placed;
+    if (status == LCRVM_OK && record != NULL)
+        *record = placed;
     return status;
 }
 
-enum lcrvm_status lcrvm_commit(struct lcrvm_store *store, uint32_t node, uint32_t *thread, bool flush,
-                               struct lcrvm_commit *commit)
+enum lcrvm_status lcrvm_commit(struct lcrvm_store *store, uint32_t node, uint32_t *transaction, bool flush,
+                               struct lcrvm_record *record)
 {
     enum lcrvm_status status;
 
-    if (thread == NULL)
-        return misused();
-    status = enter(store) ? done(store, commit_and_flush(store, node, thread, flush, commit)) : not_entered();
+    if (transaction == NULL)
+        return misused("transaction: NULL");
+    if (enter(store)) {
+        status = commit_and_flush(store, node, transaction, flush, record);
+        status = done(store, named(store, status, node, *transaction, 1));
+    } else
+        status = not_entered();
     if (status == LCRVM_DEVICE_FAULT)
-        *thread = LCRVM_NO_THREAD;
+        *transaction = LCRVM_NO_TRANSACTION;
     return status;
 }
 
 /* Commits, and flushes whatever became of the commit, which is answered first. */
 static enum lcrvm_status end_and_flush(struct lcrvm_store *store, uint32_t node, uint32_t thread, bool flush,
-                                       struct lcrvm_commit *commit)
+                                       struct lcrvm_record *record)
 {
-    struct lcrvm_commit placed;
+    struct lcrvm_record placed;
     enum lcrvm_status ended = commit_with_room(store, node, thread, &placed), flushed;
     const struct lcrvm_fault why = fault_here;
 
     flushed = flush_after(store, node, flush);
     if (store->over)
         return is_over(store);
-    if (ended == LCRVM_OK && flushed == LCRVM_OK && commit != NULL)
-        *commit = placed;
+    if (ended == LCRVM_OK && flushed == LCRVM_OK && record != NULL)
+        *record = placed;
     if (ended == LCRVM_OK)
         return flushed;
     fault_here = why;
@@ -743,9 +826,11 @@ static enum lcrvm_status end_and_flush(struct lcrvm_store *store, uint32_t node,
 }
 
 enum lcrvm_status lcrvm_end_transaction(struct lcrvm_store *store, uint32_t node, uint32_t thread, bool flush,
-                                        struct lcrvm_commit *commit)
+                                        struct lcrvm_record *record)
 {
-    return enter(store) ? done(store, end_and_flush(store, node, thread, flush, commit)) : not_entered();
+    if (!enter(store))
+        return not_entered();
+    return done(store, named(store, end_and_flush(store, node, thread, flush, record), node, thread, 1));
 }
 
 enum lcrvm_status lcrvm_flush(struct lcrvm_store *store, uint32_t node, uint64_t *records)
@@ -756,7 +841,7 @@ enum lcrvm_status lcrvm_flush(struct lcrvm_store *store, uint32_t node, uint64_t
     if (!enter(store))
         return not_entered();
     known = node < MOST_NODES ? store->records[node] : 0;
-    status = done(store, flush_shared(store, node));
+    status = done(store, named(store, flush_shared(store, node), node, 0, 1));
     if (status == LCRVM_OK && records != NULL)
         *records = known;
     return status;
@@ -777,12 +862,45 @@ static enum lcrvm_status truncate_alone(struct lcrvm_store *store, uint32_t node
 
 enum lcrvm_status lcrvm_truncate(struct lcrvm_store *store, uint32_t node, uint64_t *rounds)
 {
-    return enter(store) ? done(store, truncate_alone(store, node, rounds)) : not_entered();
+    if (!enter(store))
+        return not_entered();
+    return done(store, named(store, truncate_alone(store, node, rounds), node, 0, 1));
 }
 
 enum lcrvm_status lcrvm_trim(struct lcrvm_store *store, uint32_t node, uint64_t *count)
 {
-    return enter(store) ? done(store, trim_now(store, node, count)) : not_entered();
+    if (!enter(store))
+        return not_entered();
+    return done(store, named(store, trim_now(store, node, count), node, 0, 1));
+}
+
+/* Counts what stands beside the store's own counters too. */
+static enum lcrvm_status count_node(const struct lcrvm_store *store, uint32_t node, struct lcrvm_counters *counters)
+{
+    struct lcrvm_counters now;
+    const uint32_t size = counters->size;
+
+    if (node >= store->geometry.nodes)
+        return failed(LCRVM_UNKNOWN, "");
+    now = store->counted[node];
+    for (uint32_t thread = 0; thread < store->geometry.threads; thread++)
+        now.open += store->begun[node][thread].open;
+    now.commits = store->records[node];
+    now.truncations = store->rounds[node];
+    memcpy(counters, &now, size < sizeof now ? size : sizeof now);
+    counters->size = size;
+    return LCRVM_OK;
+}
+
+enum lcrvm_status lcrvm_stats(struct lcrvm_store *store, uint32_t node, struct lcrvm_counters *counters)
+{
+    if (counters == NULL)
+        return misused("counters: NULL");
+    if (!is_room(counters->size, FIRST_COUNTERS))
+        return misused("counters: no size of this structure");
+    if (!enter(store))
+        return not_entered();
+    return done(store, named(store, count_node(store, node, counters), node, 0, 1));
 }
 
 enum lcrvm_status lcrvm_leave(struct lcrvm_store *store, uint32_t node, uint32_t segment)
@@ -792,7 +910,7 @@ enum lcrvm_status lcrvm_leave(struct lcrvm_store *store, uint32_t node, uint32_t
     if (!enter(store))
         return not_entered();
     lcrvm_session_leave(&store->session, bounded(node), segment, &answer);
-    return done(store, answered(store, &answer));
+    return done(store, named(store, answered(store, &answer), node, 0, segment));
 }
 
 enum lcrvm_status lcrvm_arrive(struct lcrvm_store *store, uint32_t node, uint32_t segment)
@@ -802,7 +920,7 @@ enum lcrvm_status lcrvm_arrive(struct lcrvm_store *store, uint32_t node, uint32_
     if (!enter(store))
         return not_entered();
     lcrvm_session_arrive(&store->session, bounded(node), segment, &answer);
-    return done(store, answered(store, &answer));
+    return done(store, named(store, answered(store, &answer), node, 0, segment));
 }
 
 static enum lcrvm_delivery delivery_of(uint32_t reply)
@@ -819,13 +937,19 @@ enum lcrvm_status lcrvm_deliver(struct lcrvm_store *store, uint32_t node, uint64
     if (!enter(store))
         return not_entered();
     lcrvm_session_deliver(&store->session, bounded(node), record, segment, bounded(to), &answer);
-    status = done(store, answered(store, &answer));
+    status = named(store, answered(store, &answer), node, 0, segment);
+    status = done(store, named(store, status, to, 0, segment));
     if (status == LCRVM_OK && delivered != NULL)
         *delivered = (struct lcrvm_delivered){.delivery = delivery_of(answer.reply), .applied = answer.count};
     return status;
 }
 
 /* ---- what is asked of no session */
+
+const char *lcrvm_version(void)
+{
+    return LCRVM_VERSION;
+}
 
 const char *lcrvm_status_text(enum lcrvm_status status)
 {

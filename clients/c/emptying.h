@@ -1,5 +1,5 @@
-/* How a log that is full is emptied beside open transactions: the session aborts those that have set a range, and begins
-   them again after the truncation with the same locks, which takes no memory. The lock is held all the while, so to
+/* How a log that is full is emptied beside open transactions: the session aborts those that have set a range, and
+   begins them again after the truncation with the same locks, which takes no memory. The lock is held all the while, so to
    their threads it is as if nothing had been.
 
    What their ranges hold is kept by the session before the first one is aborted, and given back by the next call of

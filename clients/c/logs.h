@@ -29,15 +29,19 @@ static void give_files(struct lcrvm_store *store)
 static enum lcrvm_status flush_now(struct lcrvm_store *store, uint32_t node)
 {
     struct answer answer = {0};
+    const uint64_t before = store->acked[node];
     enum lcrvm_status status;
 
     do {
         lcrvm_session_flush_step(&store->session, bounded(node), &answer);
         status = mirrored(store, node, &answer);
     } while (status == LCRVM_OK && answer.reply == STEPPED);
-    if (status == LCRVM_OK)
-        store->acked[node] = answer.reply == ACKED ? answer.count : store->records[node];
-    return status;
+    if (status != LCRVM_OK)
+        return status;
+    store->acked[node] = answer.reply == ACKED ? answer.count : store->records[node];
+    store->counted[node].flushes += store->acked[node] > before;
+    store->counted[node].flushed += store->acked[node] - before;
+    return LCRVM_OK;
 }
 
 /* Makes stable what the node has committed so far. Who comes while another thread flushes waits for it, and then
@@ -92,6 +96,7 @@ static enum lcrvm_status truncate_now(struct lcrvm_store *store, uint32_t node)
         return status;
     store->acked[node] = store->records[node];
     store->rounds[node] += answer.reply == RESET;
+    store->counted[node].log_words = 0;
     return trim_now(store, node, NULL);
 }
 

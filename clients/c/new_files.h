@@ -140,7 +140,7 @@ static enum lcrvm_status make_files(struct new_store *new, struct lcrvm_fault *f
     while (made < files && (status = make_file(new, made, fault)) == LCRVM_OK)
         made++;
     if (status == LCRVM_OK && !sync_names(new))
-        status = system_failed(fault);
+        status = file_failed(fault, folder_name);
     while (status != LCRVM_OK && made > 0) {
         name_of_new(new->geometry, --made, name);
         take_away(new->kept.of[FOLDER], name, 0, fault);
@@ -154,11 +154,13 @@ static enum lcrvm_status open_or_make(struct new_store *new, struct lcrvm_fault 
     if (open_folder(&new->kept, FOLDER, AT_FDCWD, new->path) >= 0)
         return LCRVM_OK;
     if (errno != ENOENT)
-        return system_failed(fault);
+        return folder_failed(fault, LCRVM_DEVICE_FAULT, new->path);
     new->is_folder_new = mkdirat(AT_FDCWD, new->path, 0777) == 0;
     if (!new->is_folder_new && errno != EEXIST)
-        return system_failed(fault);
-    return open_folder(&new->kept, FOLDER, AT_FDCWD, new->path) >= 0 ? LCRVM_OK : system_failed(fault);
+        return folder_failed(fault, LCRVM_DEVICE_FAULT, new->path);
+    if (open_folder(&new->kept, FOLDER, AT_FDCWD, new->path) < 0)
+        return folder_failed(fault, LCRVM_DEVICE_FAULT, new->path);
+    return LCRVM_OK;
 }
 
 /* All names are looked at before the first file is made. */
@@ -167,7 +169,7 @@ static enum lcrvm_status make_in_folder(struct new_store *new, struct lcrvm_faul
     enum lcrvm_status status = look_at_all(new->kept.of[FOLDER], fault);
 
     if (status == LCRVM_OK)
-        status = lock_folder(new->kept.of[FOLDER], fault);
+        status = lock_folder(new->kept.of[FOLDER], new->path, 0, fault);
     return status == LCRVM_OK ? make_files(new, fault) : status;
 }
 

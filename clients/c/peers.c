@@ -94,8 +94,10 @@ static struct piece piece_of(const struct change *change, uint32_t from)
 
 static struct lcrvm_store *own;
 
-static const struct lcrvm_geometry own_size = {1, 1, 1, PAGES, LOG_WORDS};
-static const struct lcrvm_options own_options = {.geometry = &own_size};
+static const struct lcrvm_geometry own_size = {
+    .size = sizeof own_size, .nodes = 1, .threads = 1, .segments = 1, .pages = PAGES, .words = LOG_WORDS,
+};
+static const struct lcrvm_options own_options = {.size = sizeof own_options, .geometry = &own_size};
 
 static void own_need(enum lcrvm_status status)
 {

@@ -166,7 +166,7 @@ static enum lcrvm_status renew_files(struct descriptors *kept, const struct lcrv
     for (uint32_t area = 0; area < areas_of(geometry) && status == LCRVM_OK; area++)
         status = renew_file(kept, geometry, area, fault);
     if (status == LCRVM_OK && !make_stable(kept->of[FOLDER], fsync))
-        status = system_failed(fault);
+        status = file_failed(fault, folder_name);
     return status == LCRVM_OK ? remove_regular(kept->of[FOLDER], mark, mark, fault) : status;
 }
 

@@ -74,6 +74,7 @@ uint32_t lcrvm_session_deliver(struct handle *handle, uint16_t sender, uint64_t 
                                struct answer *answer);
 uint32_t lcrvm_session_trim(struct handle *handle, uint16_t node, struct answer *answer);
 bool lcrvm_session_last_call(struct handle *handle, uint32_t place, struct last_call *call);
+uint32_t lcrvm_recovery_round(uint16_t nodes, uint32_t segments, uint64_t steps, uint32_t place);
 bool lcrvm_session_bytes(struct handle *handle, uint32_t place, size_t at, uint8_t *buffer, size_t len);
 void lcrvm_session_give_up(struct handle *handle);
 void lcrvm_session_free(struct handle handle);

@@ -25,12 +25,14 @@ static inline size_t write_size(const struct lcrvm_geometry *size, char text[SIZ
 /* Takes the size from the text, but for the threads, where it is just that of a store's size. */
 static inline bool read_size(const char *text, size_t length, struct lcrvm_geometry *size)
 {
-    struct lcrvm_geometry read = {.threads = size->threads};
+    struct lcrvm_geometry read = {.size = sizeof read, .threads = size->threads};
+    struct bounded_number outside;
     char again[SIZE_BYTES];
+
     if (sscanf(text, "format 1 nodes %1" SCNu32 " segments %2" SCNu32 " pages %4" SCNu32 " words %4" SCNu32,
                &read.nodes, &read.segments, &read.pages, &read.words) != 4)
         return false;
-    if (!is_size(&read) || write_size(&read, again) != length || memcmp(text, again, length) != 0)
+    if (find_outside(&read, &outside) || write_size(&read, again) != length || memcmp(text, again, length) != 0)
         return false;
     *size = read;
     return true;

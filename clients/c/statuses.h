@@ -64,6 +64,7 @@ static const char *text_of(enum lcrvm_status status)
 static enum lcrvm_status fill_fault(struct lcrvm_fault *fault, enum lcrvm_status status, const char *text)
 {
     memset(fault, 0, sizeof *fault);
+    fault->size = sizeof *fault;
     fault->status = status;
     snprintf(fault->text, sizeof fault->text, "%s", text);
     return status;
@@ -83,19 +84,29 @@ static enum lcrvm_status told(enum lcrvm_status status)
     return status;
 }
 
-/* The same, and the fault is handed out where the caller wants it. */
+/* Copies a fault to the caller's, as far as that one reaches. */
+static void hand_out(const struct lcrvm_fault *fault, struct lcrvm_fault *wanted)
+{
+    const uint32_t size = wanted->size;
+
+    memcpy(wanted, fault, size < sizeof *fault ? size : sizeof *fault);
+    wanted->size = size;
+}
+
+/* The same as told, and the fault is handed out if the caller wants it. */
 static enum lcrvm_status told_to(enum lcrvm_status status, struct lcrvm_fault *fault)
 {
-    if (fault != NULL && status != LCRVM_OK)
-        *fault = fault_here;
-    else if (fault != NULL)
-        fill_fault(fault, LCRVM_OK, "");
+    struct lcrvm_fault none;
+
+    fill_fault(&none, LCRVM_OK, "");
+    if (fault != NULL)
+        hand_out(status != LCRVM_OK ? &fault_here : &none, fault);
     return told(status);
 }
 
-static enum lcrvm_status misused(void)
+static enum lcrvm_status misused(const char *text)
 {
-    return told(failed(LCRVM_MISUSE, ""));
+    return told(failed(LCRVM_MISUSE, text));
 }
 
 #endif

@@ -32,6 +32,7 @@ struct lcrvm_store {
     bool shared;            /* that thread gives `events` back while it syncs */
     struct waiter *waiters; /* who waits to begin, in turn */
 
+    struct lcrvm_counters counted[MOST_NODES];
     uint64_t records[MOST_NODES]; /* the commits of each node that have one */
     uint64_t acked[MOST_NODES];   /* so many of them are stable */
     uint64_t rounds[MOST_NODES];
@@ -56,6 +57,7 @@ static enum lcrvm_status refused(const struct answer *answer)
     if (answer->status == LCRVM_OK)
         return LCRVM_OK;
     fault_here = (struct lcrvm_fault){
+        .size = sizeof fault_here,
         .status = (enum lcrvm_status)answer->status,
         .has_area = answer->has_area,
         .segment = answer->segment,
@@ -69,12 +71,17 @@ static enum lcrvm_status refused(const struct answer *answer)
     return fault_here.status;
 }
 
-static bool write_area(struct lcrvm_store *store, uint32_t place, size_t at, size_t len)
+static bool write_file(struct lcrvm_store *store, uint32_t place, const uint8_t *bytes, size_t len, uint64_t at)
 {
     if (len > 0)
         store->stable[place] = false;
+    return write_whole(store->kept.of[place], bytes, len, at);
+}
+
+static bool write_area(struct lcrvm_store *store, uint32_t place, size_t at, size_t len)
+{
     return lcrvm_session_bytes(&store->session, place, at, store->bytes, len) &&
-           write_whole(store->kept.of[place], store->bytes, len, at);
+           write_file(store, place, store->bytes, len, at);
 }
 
 /* Others commit in memory meanwhile, where the thread that is at the files lets them; none of them calls a file. */
@@ -153,7 +160,7 @@ static enum lcrvm_status mirrored(struct lcrvm_store *store, uint32_t place, con
     return refused(answer);
 }
 
-/* The same after an event of a recovery or of a truncation, which may have called any area. */
+/* The same after an event of a truncation, which may have called any area. */
 static enum lcrvm_status all_mirrored(struct lcrvm_store *store, const struct answer *answer)
 {
     enum lcrvm_status status = LCRVM_OK;

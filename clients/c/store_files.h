@@ -5,6 +5,7 @@
 #include "descriptors.h"
 #include "stated_size.h"
 #include "statuses.h"
+#include "times.h"
 #include "transactions.h"
 
 #include <errno.h>
@@ -13,23 +14,20 @@
 #include <string.h>
 #include <sys/file.h>
 #include <sys/stat.h>
+#include <sys/sysmacros.h>
 #include <sys/types.h>
+#include <time.h>
 #include <unistd.h>
 
 enum { NAME_BYTES = 16 };
 
 static const char log_kind[] = "log", segment_kind[] = "seg", mark[] = "fault", in_use[] = "store in use";
+static const char folder_name[] = "folder"; /* how the folder of a store is named where its path is not known */
 static const char copy_end[] = ".new"; /* the end of the name of a file that is not whole yet */
 
 /* ---- what failed */
 
-/* The system has refused something. */
-static enum lcrvm_status system_failed(struct lcrvm_fault *fault)
-{
-    return fill_fault(fault, LCRVM_DEVICE_FAULT, strerror(errno));
-}
-
-/* The same of a file, whose name stands in front of the reason. */
+/* Fills a fault of a file with its name, and a reason after it. */
 static enum lcrvm_status fault_of_file(struct lcrvm_fault *fault, enum lcrvm_status status, const char *name,
                                        const char *reason)
 {
@@ -38,9 +36,31 @@ static enum lcrvm_status fault_of_file(struct lcrvm_fault *fault, enum lcrvm_sta
     return status;
 }
 
+/* Fills a fault of a file with its name and the system's reason. */
 static enum lcrvm_status file_failed(struct lcrvm_fault *fault, const char *name)
 {
-    return fault_of_file(fault, LCRVM_DEVICE_FAULT, name, strerror(errno));
+    const int error = errno;
+
+    fault_of_file(fault, LCRVM_DEVICE_FAULT, name, strerror(error));
+    fault->error = error;
+    return fault->status;
+}
+
+/* Fills a fault of the folder with the end of its path, which may be long, and the system's reason. */
+static enum lcrvm_status folder_failed(struct lcrvm_fault *fault, enum lcrvm_status status, const char *path)
+{
+    enum { SHOWN = 160 };
+    const int error = errno;
+    const size_t length = strlen(path);
+
+    fill_fault(fault, status, "");
+    if (length == 0)
+        snprintf(fault->text, sizeof fault->text, "the path is empty");
+    else
+        snprintf(fault->text, sizeof fault->text, "%s%s: %s", length > SHOWN ? ".." : "",
+                 length > SHOWN ? path + length - SHOWN : path, strerror(error));
+    fault->error = error;
+    return status;
 }
 
 /* Says one thing more of a file, on a line of its own. For all lines that find no room there is one of two dots. */
@@ -177,20 +197,68 @@ static bool lock(int file)
     return true;
 }
 
-/* No other process makes or opens a store in the folder until it is unlocked. */
-static enum lcrvm_status lock_folder(int folder, struct lcrvm_fault *fault)
+/* Tries to lock what is open, for so long at most: no lock of the system's can be waited for with an end. */
+static bool lock_within(int file, uint32_t milliseconds)
 {
-    if (lock(folder))
-        return LCRVM_OK;
-    return errno == EWOULDBLOCK ? fill_fault(fault, LCRVM_STORE_IN_USE, in_use) : system_failed(fault);
+    static const struct timespec briefly = {0, 5000000};
+    const struct timespec until = time_after(milliseconds);
+    bool locked = lock(file);
+
+    while (!locked && errno == EWOULDBLOCK && milliseconds > 0 && (milliseconds == UINT32_MAX || !is_past(&until))) {
+        nanosleep(&briefly, NULL);
+        locked = lock(file);
+    }
+    return locked;
 }
 
-/* Nor does one open the file by another folder, where it has a name too. */
+/* The process that has what is open locked, by the system's list of locks; 0 if that does not tell. */
+static long locked_by(int file)
+{
+    FILE *locks = fopen("/proc/locks", "re");
+    char line[256];
+    struct stat at;
+    long process = 0;
+
+    if (locks == NULL)
+        return 0;
+    while (fstat(file, &at) == 0 && process == 0 && fgets(line, sizeof line, locks) != NULL) {
+        unsigned long long inode;
+        unsigned major_number, minor_number;
+        long owner;
+
+        if (sscanf(line, "%*[^:]: FLOCK %*s %*s %ld %x:%x:%llu", &owner, &major_number, &minor_number, &inode) == 4 &&
+            inode == at.st_ino && major_number == major(at.st_dev) && minor_number == minor(at.st_dev))
+            process = owner;
+    }
+    fclose(locks);
+    return process > 0 ? process : 0;
+}
+
+/* Fills a fault of a file or a folder that is locked, with the process that has it. */
+static enum lcrvm_status is_in_use(struct lcrvm_fault *fault, const char *name, int file)
+{
+    const long process = locked_by(file);
+    char reason[64];
+
+    snprintf(reason, sizeof reason, process > 0 ? "%s by process %ld" : "%s", in_use, process);
+    return name != NULL ? fault_of_file(fault, LCRVM_STORE_IN_USE, name, reason)
+                        : fill_fault(fault, LCRVM_STORE_IN_USE, reason);
+}
+
+/* Locks the folder, so that no other process makes or opens a store there until it is unlocked. */
+static enum lcrvm_status lock_folder(int folder, const char *path, uint32_t milliseconds, struct lcrvm_fault *fault)
+{
+    if (lock_within(folder, milliseconds))
+        return LCRVM_OK;
+    return errno == EWOULDBLOCK ? is_in_use(fault, NULL, folder) : folder_failed(fault, LCRVM_DEVICE_FAULT, path);
+}
+
+/* Locks a file, so that no other process opens it by another folder, where it may have a name too. */
 static enum lcrvm_status lock_file(int file, const char *name, struct lcrvm_fault *fault)
 {
     if (lock(file))
         return LCRVM_OK;
-    return errno == EWOULDBLOCK ? fault_of_file(fault, LCRVM_STORE_IN_USE, name, in_use) : file_failed(fault, name);
+    return errno == EWOULDBLOCK ? is_in_use(fault, name, file) : file_failed(fault, name);
 }
 
 /* ---- the size of a store by its files */
@@ -205,6 +273,19 @@ static enum lcrvm_status no_store(struct lcrvm_fault *fault, const char *kind, u
     fill_fault(fault, LCRVM_NO_STORE, "");
     snprintf(fault->text, sizeof fault->text, "%s%u %s", kind, (unsigned)number, why);
     return LCRVM_NO_STORE;
+}
+
+/* NO_STORE if nothing stands under the name of the first log. */
+static enum lcrvm_status look_for_store(int folder, struct lcrvm_fault *fault)
+{
+    char name[NAME_BYTES];
+    enum lcrvm_status status;
+
+    write_name(log_kind, 0, name);
+    status = look_at(folder, name, fault);
+    if (status == LCRVM_OK)
+        return no_store(fault, log_kind, 0, "is missing");
+    return status == LCRVM_EXISTS ? LCRVM_OK : status;
 }
 
 /* How many files of a kind there are, from the first on, each as long as the first. */

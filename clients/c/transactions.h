@@ -27,32 +27,49 @@ struct begun {
 
 /* ---- sizes */
 
-static const struct lcrvm_options no_options;
-static const struct lcrvm_geometry ordinary = {1, MOST_THREADS, 4, 64, MOST_WORDS};
-static const struct lcrvm_geometry greatest = {MOST_NODES, MOST_THREADS, MOST_SEGMENTS, MOST_PAGES, MOST_WORDS};
+static const struct lcrvm_geometry ordinary = {
+    .size = sizeof ordinary, .nodes = 1, .threads = MOST_THREADS, .segments = 4, .pages = 64, .words = MOST_WORDS,
+};
+static const struct lcrvm_geometry greatest = {
+    .size = sizeof greatest,
+    .nodes = MOST_NODES,
+    .threads = MOST_THREADS,
+    .segments = MOST_SEGMENTS,
+    .pages = MOST_PAGES,
+    .words = MOST_WORDS,
+};
 
 static bool is_within(uint32_t number, uint32_t low, uint32_t high)
 {
     return low <= number && number <= high;
 }
 
-/* Whether there are stores of this size. */
-static bool is_size(const struct lcrvm_geometry *geometry)
+/* A number of a geometry, and from where to where it goes. */
+struct bounded_number {
+    const char *name;
+    uint32_t number, low, high;
+};
+
+/* Looks for a number of the geometry that is outside of its range, and writes it to *outside; false if none is. */
+static bool find_outside(const struct lcrvm_geometry *geometry, struct bounded_number *outside)
 {
-    return is_within(geometry->nodes, 1, MOST_NODES) && is_within(geometry->threads, 1, MOST_THREADS) &&
-           is_within(geometry->segments, 1, MOST_SEGMENTS) && is_within(geometry->pages, 1, MOST_PAGES) &&
-           is_within(geometry->words, LEAST_WORDS, MOST_WORDS);
+    const struct bounded_number all[] = {
+        {"nodes", geometry->nodes, 1, MOST_NODES},          {"threads", geometry->threads, 1, MOST_THREADS},
+        {"segments", geometry->segments, 1, MOST_SEGMENTS}, {"pages", geometry->pages, 1, MOST_PAGES},
+        {"words", geometry->words, LEAST_WORDS, MOST_WORDS},
+    };
+
+    for (size_t i = 0; i < sizeof all / sizeof all[0]; i++)
+        if (!is_within(all[i].number, all[i].low, all[i].high)) {
+            *outside = all[i];
+            return true;
+        }
+    return false;
 }
 
 static uint32_t threads_of(const struct lcrvm_options *options)
 {
     return options->threads > 0 ? options->threads : MOST_THREADS;
-}
-
-/* Whether there are stores as the options want one. */
-static bool is_wanted(const struct lcrvm_options *options)
-{
-    return options->geometry != NULL ? is_size(options->geometry) : threads_of(options) <= MOST_THREADS;
 }
 
 /* The size of a store that is to be made. */

@@ -5,6 +5,7 @@
 #define LCRVM_WAITING_H
 
 #include "store.h"
+#include "times.h"
 
 #include <time.h>
 
@@ -222,20 +223,6 @@ static bool waits_for_itself(struct lcrvm_store *store, const struct wish *wish)
 
 /* ---- waiting */
 
-static struct timespec time_after(uint32_t milliseconds)
-{
-    struct timespec at;
-
-    clock_gettime(CLOCK_MONOTONIC, &at);
-    at.tv_sec += (time_t)(milliseconds / 1000);
-    at.tv_nsec += (long)(milliseconds % 1000) * 1000000;
-    if (at.tv_nsec >= 1000000000) {
-        at.tv_sec++;
-        at.tv_nsec -= 1000000000;
-    }
-    return at;
-}
-
 static void init_condition(pthread_cond_t *condition)
 {
     pthread_condattr_t attributes;
@@ -246,10 +233,20 @@ static void init_condition(pthread_cond_t *condition)
     pthread_condattr_destroy(&attributes);
 }
 
+/* Counts a wait that began at this time. */
+static void count_wait(struct lcrvm_counters *counted, const struct timespec *begun)
+{
+    const uint64_t waited = microseconds_since(begun);
+
+    counted->waits++;
+    if (waited > counted->longest_wait)
+        counted->longest_wait = waited;
+}
+
 /* Waits until the waiter is served, or the time is over. */
 static void wait_for_turn(struct lcrvm_store *store, struct waiter *waiter, uint32_t milliseconds)
 {
-    const struct timespec until = time_after(milliseconds);
+    const struct timespec begun = time_after(0), until = time_after(milliseconds);
     int ended = 0;
 
     while (!waiter->served && ended == 0) {
@@ -258,6 +255,8 @@ static void wait_for_turn(struct lcrvm_store *store, struct waiter *waiter, uint
         else
             ended = pthread_cond_timedwait(&waiter->turn, &store->events, &until);
     }
+    if (waiter->wish.node < store->geometry.nodes)
+        count_wait(&store->counted[waiter->wish.node], &begun);
 }
 
 static void take_out(struct lcrvm_store *store, const struct waiter *waiter)

@@ -41,17 +41,26 @@ def _version() -> str:
 VERSION = _version()
 INFO = f"lcrvm-{VERSION}.dist-info"
 PLATFORM = re.sub("[-.]", "_", sysconfig.get_platform())
-TAG = f"cp38-abi3-{PLATFORM}"
+README = os.path.join(TOP, "README.md")
 METADATA = f"""Metadata-Version: 2.4
 Name: lcrvm
 Version: {VERSION}
 Summary: Recoverable virtual memory: transactions on bytes that outlive a crash
+Keywords: transactions,durable,persistent,recovery,storage
+Classifier: Development Status :: 4 - Beta
+Classifier: Intended Audience :: Developers
+Classifier: Operating System :: POSIX :: Linux
+Classifier: Programming Language :: C
+Classifier: Programming Language :: Python :: 3
+Classifier: Topic :: Database
+Classifier: Typing :: Typed
 License-Expression: MIT OR Apache-2.0
 License-File: LICENSE-MIT
 License-File: LICENSE-APACHE
 Requires-Python: >=3.8
+Description-Content-Type: text/markdown
+
 """
-WHEEL = f"Wheel-Version: 1.0\nGenerator: lcrvm\nRoot-Is-Purelib: false\nTag: {TAG}\n"
 
 
 def _need(path: str, what: str) -> None:
@@ -87,14 +96,22 @@ def _extension() -> bytes:
         return _content(path)
 
 
+def _platform(files: Dict[str, bytes]) -> str:
+    """The tag of what the libraries need: the newest version of glibc that they name (PEP 600)."""
+    wanted = [found for path, data in files.items() if ".so" in path
+              for found in re.findall(rb"GLIBC_2\.(\d+)", data)]
+    return f"manylinux_2_{max(map(int, wanted))}_{os.uname().machine}" if wanted else PLATFORM
+
+
 def _pack(folder: str, files: Dict[str, bytes]) -> str:
     """Writes a wheel, which is the same for the same files."""
-    name, record = f"lcrvm-{VERSION}-{TAG}.whl", ""
+    tag = f"cp38-abi3-{_platform(files)}"
+    name, record = f"lcrvm-{VERSION}-{tag}.whl", ""
     for text in LICENSES:
         _need(os.path.join(TOP, text), "the package is built within the repository")
         files[f"{INFO}/licenses/{text}"] = _content(os.path.join(TOP, text))
-    files[f"{INFO}/METADATA"] = METADATA.encode()
-    files[f"{INFO}/WHEEL"] = WHEEL.encode()
+    files[f"{INFO}/METADATA"] = METADATA.encode() + (_content(README) if os.path.exists(README) else b"")
+    files[f"{INFO}/WHEEL"] = f"Wheel-Version: 1.0\nGenerator: lcrvm\nRoot-Is-Purelib: false\nTag: {tag}\n".encode()
     for path, data in files.items():
         digest = base64.urlsafe_b64encode(hashlib.sha256(data).digest()).rstrip(b"=").decode()
         record += f"{path},sha256={digest},{len(data)}\n"
@@ -117,3 +134,11 @@ def build_wheel(folder: str, config_settings: object = None, metadata_directory:
 def build_editable(folder: str, config_settings: object = None, metadata_directory: Optional[str] = None) -> str:
     _compile(os.path.join(PACKAGE, EXTENSION))
     return _pack(folder, {"lcrvm.pth": f"{HERE}\n".encode()})
+
+
+class UnsupportedOperation(Exception):
+    """What a front end asks for that cannot be had (PEP 517)."""
+
+
+def build_sdist(folder: str, config_settings: object = None) -> str:
+    raise UnsupportedOperation("the library within is proved, and built by `make prove` alone: build the wheel")

@@ -10,7 +10,8 @@
 
 A commit is durable when it is answered, unless the transaction was made with `durable=False`. Such a lazy commit is
 made durable by the next durable one, by `flush` and by `close`; and where nobody closes the store, when the store is
-dropped or the interpreter ends. It may be lost where the process is killed or ends by os._exit.
+dropped or the interpreter ends. It may be lost where the process is killed or ends by os._exit. A transaction that only
+reads waits for no device: what it saw may be lost so too, unless it was made with `durable=True`.
 
 Each call may come from any thread, and a transaction is used by one thread at a time. What a KeyboardInterrupt cuts
 is done or not done, never half: `Transaction.state` says which. In Python 3.8 and 3.9 it may leave a `with` without a
@@ -26,6 +27,7 @@ from __future__ import annotations
 import atexit
 import enum
 import os
+import time
 from typing import NamedTuple, Optional, Union
 
 from . import _lcrvm, errors
@@ -34,7 +36,7 @@ from .errors import *  # noqa: F403
 from .errors import Exists, StoreInUse, error_of
 
 __version__ = "0.1.0"
-__all__ = ["open", "create", "Store", "Transaction", "Geometry", "Commit", "Delivered", "Delivery"]
+__all__ = ["open", "create", "Store", "Transaction", "Geometry", "Commit", "Delivered", "Delivery", "Stats"]
 __all__ += errors.__all__
 
 Path = Union[str, bytes, "os.PathLike[str]", "os.PathLike[bytes]"]
@@ -80,7 +82,25 @@ class Delivered(NamedTuple):
     applied: Optional[int]
 
 
-_lcrvm.use(error_of, Geometry, Commit, Delivered, Delivery)
+class Stats(NamedTuple):
+    """What a node has done since the store was opened.
+
+    `open` transactions and `log_words`, the words of its log that records have, are as they are now. `flushed` is how
+    many records the `flushes` made durable: several commits share one. `waits` counts the begins that waited for other
+    transactions, and `longest_wait` is the longest, in seconds.
+    """
+
+    open: int
+    log_words: int
+    commits: int
+    flushes: int
+    flushed: int
+    truncations: int
+    waits: int
+    longest_wait: float
+
+
+_lcrvm.use(error_of, Geometry, Commit, Delivered, Delivery, Stats)
 atexit.register(_lcrvm.end_all)
 
 
@@ -94,13 +114,25 @@ def create(path: Path, geometry: Geometry = Geometry()) -> None:
 
 
 def open(path: Path, create: bool = False, *, geometry: Optional[Geometry] = None, durable: bool = True,
-         timeout: float = 5.0) -> Store:
+         timeout: float = 5.0, wait: float = 0.0) -> Store:
     """Opens the store in a folder, and recovers it: each commit that was acknowledged is there.
 
     With `create` it is made where there is none. Without a geometry it has the size that it states; with one, another
     size is BadGeometry. `durable` is whether commits are, and `timeout` how many seconds a begin waits for a lock,
-    where a transaction says nothing else. Raises NoStore, StoreInUse, DeviceFault, BadGeometry, Gap or Twice.
+    where a transaction says nothing else. `wait` is how many seconds the opening waits for a store that is open
+    elsewhere. Raises NoStore, StoreInUse, DeviceFault, BadGeometry, Gap or Twice.
     """
+    until = time.monotonic() + wait
+    while True:
+        try:
+            return _open_now(path, create, geometry, durable, timeout)
+        except StoreInUse:
+            if time.monotonic() >= until:
+                raise
+        time.sleep(0.01)
+
+
+def _open_now(path: Path, create: bool, geometry: Optional[Geometry], durable: bool, timeout: float) -> Store:
     folder = os.fsdecode(path)
     if create and not any(os.path.lexists(os.path.join(folder, name)) for name in ("lcrvm.store", "log0")):
         try:

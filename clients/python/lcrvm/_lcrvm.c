@@ -5,6 +5,7 @@
 #define Py_LIMITED_API 0x03080000
 #define PY_SSIZE_T_CLEAN
 #include <Python.h>
+#include <structmember.h>
 
 #include <math.h>
 #include <pthread.h>
@@ -39,7 +40,7 @@ typedef struct store {
     bool ending;  /* the interpreter ends, and no call is begun */
     bool durable;
     double timeout;
-    PyObject *path;
+    PyObject *path, *weak; /* the list of weak references, from Python 3.9 on */
     Transaction *open;
     struct store *next;
 } Store;
@@ -54,21 +55,23 @@ struct view {
 
 struct transaction {
     PyObject_HEAD
+    PyObject *weak;
     Store *store;
     Transaction *next; /* of those that are open */
-    uint32_t node, thread, writing[MOST_SEGMENTS], reading[MOST_SEGMENTS];
+    uint32_t node, number, writing[MOST_SEGMENTS], reading[MOST_SEGMENTS];
     size_t writing_count, reading_count;
     bool durable;
     bool inside; /* a thread is within a call of it */
     bool cut;    /* its store was closed while it was open */
     double timeout;
     enum state state;
-    struct lcrvm_commit placed;
+    struct lcrvm_record placed;
     unsigned long owner;
     struct view *views;
 };
 
-static PyObject *make_error, *geometry_type, *commit_type, *delivered_type, *delivery_type, *transaction_type;
+static PyObject *make_error, *geometry_type, *commit_type, *delivered_type, *delivery_type, *stats_type;
+static PyObject *transaction_type;
 static Store *stores;  /* those that are open */
 static unsigned forks; /* how many forks this process is after */
 
@@ -136,8 +139,9 @@ static PyObject *fail_of(const struct lcrvm_fault *why, unsigned long thread)
     const bool has_area = why->status != LCRVM_OUT_OF_SEGMENT || why->has_area;
     PyObject *text = PyUnicode_DecodeUTF8(why->text, (Py_ssize_t)strlen(why->text), "replace");
     PyObject *error = PyObject_CallFunction(
-        make_error, "iNKKKNKKKN", (int)why->status, text, why->segment, why->sequence, why->applied,
-        number_or_none(has_area, why->area), why->words, why->tail, why->need, number_or_none(thread != 0, thread));
+        make_error, "iNKKKNKKKNi", (int)why->status, text, why->segment, why->sequence, why->applied,
+        number_or_none(has_area, why->area), why->words, why->tail, why->need, number_or_none(thread != 0, thread),
+        why->error);
 
     if (error != NULL)
         PyErr_SetObject((PyObject *)Py_TYPE(error), error);
@@ -243,6 +247,7 @@ static int take_geometry(PyObject *given, void *geometry)
     const int is_good = size != NULL && PyArg_ParseTuple(size, "O&O&O&O&:Geometry", take_32, &it->segments, take_32,
                                                          &it->pages, take_32, &it->words, take_32, &it->nodes);
 
+    it->size = sizeof *it;
     it->threads = MOST_THREADS;
     Py_XDECREF(size);
     return is_good;
@@ -328,7 +333,7 @@ static void give_up(Transaction *self)
     struct lcrvm_fault why;
 
     self->inside = true;
-    QUICKLY(self->store, &why, lcrvm_abort(self->store->handle, self->node, &self->thread));
+    QUICKLY(self->store, &why, lcrvm_abort(self->store->handle, self->node, &self->number));
     self->inside = false;
     finish(self, ABORTED);
 }
@@ -351,7 +356,7 @@ static void write_views(Transaction *self, uint32_t segment, uint64_t from, uint
     why->status = LCRVM_OK;
     for (const struct view *it = self->views; it != NULL && why->status == LCRVM_OK; it = it->next)
         if (meets(it, segment, from, to, &low, &count))
-            QUICKLY(self->store, why, lcrvm_write(self->store->handle, self->node, self->thread, it->segment, low,
+            QUICKLY(self->store, why, lcrvm_write(self->store->handle, self->node, self->number, it->segment, low,
                                                   it->bytes + (low - it->offset), count));
 }
 
@@ -360,10 +365,10 @@ static void try_begin(Transaction *self, double seconds, struct lcrvm_fault *why
     const uint32_t milliseconds = seconds < for_ever ? (uint32_t)ceil(seconds * 1000) : UINT32_MAX;
 
     if (milliseconds == 0)
-        QUICKLY(self->store, why, lcrvm_begin(self->store->handle, self->node, &self->thread, self->writing,
+        QUICKLY(self->store, why, lcrvm_begin(self->store->handle, self->node, &self->number, self->writing,
                                               self->writing_count, self->reading, self->reading_count, 0));
     else
-        FREELY(self->store, why, lcrvm_begin(self->store->handle, self->node, &self->thread, self->writing,
+        FREELY(self->store, why, lcrvm_begin(self->store->handle, self->node, &self->number, self->writing,
                                              self->writing_count, self->reading, self->reading_count, milliseconds));
 }
 
@@ -437,15 +442,15 @@ static bool commit(Transaction *self)
 
     if (!enter(self))
         return false;
-    self->placed = (struct lcrvm_commit){0, 0};
+    self->placed = (struct lcrvm_record){0, 0};
     write_views(self, 0, 0, UINT64_MAX, &why);
     if (why.status == LCRVM_OK)
         FREELY(self->store, &why,
-               lcrvm_commit(self->store->handle, self->node, &self->thread, self->durable, &self->placed));
+               lcrvm_commit(self->store->handle, self->node, &self->number, self->durable, &self->placed));
     self->inside = false;
     if (why.status == LCRVM_OK)
         finish(self, COMMITTED);
-    else if (self->thread == LCRVM_NO_THREAD)
+    else if (self->number == LCRVM_NO_TRANSACTION)
         finish(self, UNKNOWN);
     else
         give_up(self);
@@ -509,7 +514,7 @@ static PyObject *read_bytes(Transaction *self, uint32_t segment, uint32_t offset
         return Py_XDECREF(bytes), NULL;
     write_views(self, segment, offset, (uint64_t)offset + length, &why);
     if (why.status == LCRVM_OK)
-        QUICKLY(self->store, &why, lcrvm_read(self->store->handle, self->node, self->thread, segment, offset,
+        QUICKLY(self->store, &why, lcrvm_read(self->store->handle, self->node, self->number, segment, offset,
                                               PyBytes_AsString(bytes), length));
     if (!leave(self, &why))
         Py_CLEAR(bytes);
@@ -527,7 +532,7 @@ static bool write_bytes(Transaction *self, uint32_t segment, uint32_t offset, Py
     if (bytes == NULL || !enter(self))
         return Py_XDECREF(bytes), false;
     if (length <= UINT32_MAX)
-        QUICKLY(self->store, &why, lcrvm_put(self->store->handle, self->node, self->thread, segment, offset, from,
+        QUICKLY(self->store, &why, lcrvm_put(self->store->handle, self->node, self->number, segment, offset, from,
                                              (uint32_t)length));
     for (struct view *it = self->views; it != NULL && why.status == LCRVM_OK; it = it->next)
         if (meets(it, segment, offset, (uint64_t)offset + length, &low, &count))
@@ -602,7 +607,7 @@ static bool set_range(Transaction *self, uint32_t segment, uint32_t offset, uint
 
     if (!enter(self))
         return false;
-    QUICKLY(self->store, &why, lcrvm_set_range(self->store->handle, self->node, self->thread, segment, offset, length));
+    QUICKLY(self->store, &why, lcrvm_set_range(self->store->handle, self->node, self->number, segment, offset, length));
     return leave(self, &why);
 }
 
@@ -712,6 +717,12 @@ static void warn(const char *format, PyObject *store)
         PyErr_WriteUnraisable(NULL);
 }
 
+static void clear_weak(PyObject *self, PyObject *weak)
+{
+    if (weak != NULL)
+        PyObject_ClearWeakRefs(self);
+}
+
 static void free_object(PyObject *self)
 {
     PyTypeObject *type = Py_TYPE(self);
@@ -724,6 +735,7 @@ static void transaction_free(Transaction *self)
 {
     PyObject *type, *value, *traceback;
 
+    clear_weak((PyObject *)self, self->weak);
     PyErr_Fetch(&type, &value, &traceback);
     if (self->state == OPEN) {
         give_up(self);
@@ -741,8 +753,8 @@ static PyObject *store_new(PyTypeObject *type, PyObject *args, PyObject *named)
 {
     static char *names[] = {"path", "geometry", "durable", "timeout", NULL};
     struct lcrvm_geometry geometry;
-    struct lcrvm_options options = {.geometry = &geometry};
-    struct lcrvm_fault why = {.status = LCRVM_OK};
+    struct lcrvm_options options = {.size = sizeof options, .geometry = &geometry};
+    struct lcrvm_fault why = {.size = sizeof why};
     PyObject *path = NULL, *size = Py_None;
     double timeout = 5;
     int durable = 1;
@@ -854,7 +866,7 @@ static PyObject *fail_of_others(const Store *self)
 static PyObject *store_close(Store *self, PyObject *unused)
 {
     const double until = now() + self->timeout;
-    struct lcrvm_fault why = {.status = LCRVM_OK};
+    struct lcrvm_fault why = {.size = sizeof why};
 
     (void)unused;
     while (is_used(self)) {
@@ -895,11 +907,11 @@ static void end_anyway(Store *self, struct lcrvm_fault *why)
 
 static PyObject *end_all(PyObject *module, PyObject *unused)
 {
-    struct lcrvm_fault first = {.status = LCRVM_OK};
+    struct lcrvm_fault first = {.size = sizeof first};
 
     (void)module, (void)unused;
     while (stores != NULL) {
-        struct lcrvm_fault why = {.status = LCRVM_OK};
+        struct lcrvm_fault why = {.size = sizeof why};
         Store *self = stores;
 
         Py_INCREF(self);
@@ -920,8 +932,9 @@ static PyObject *store_path(Store *self, void *unused)
 static void store_free(Store *self)
 {
     PyObject *type, *value, *traceback, *path;
-    struct lcrvm_fault why = {.status = LCRVM_OK};
+    struct lcrvm_fault why = {.size = sizeof why};
 
+    clear_weak((PyObject *)self, self->weak);
     PyErr_Fetch(&type, &value, &traceback);
     if (self->handle != NULL) {
         end(self, &why);
@@ -955,13 +968,14 @@ static PyObject *store_transaction(Store *self, PyObject *writing, PyObject *nam
         Py_INCREF(self);
         it->store = self;
         it->node = node;
-        it->thread = LCRVM_NO_THREAD;
+        it->number = LCRVM_NO_TRANSACTION;
         it->timeout = self->timeout;
-        it->durable = durable == Py_None ? self->durable : PyObject_IsTrue(durable) != 0;
         if (PyErr_Occurred() != NULL || (timeout != Py_None && !take_seconds(timeout, &it->timeout)) ||
             !take_segments(writing, it->writing, &it->writing_count) ||
             !take_segments(reading, it->reading, &it->reading_count))
             Py_CLEAR(it);
+        else /* what only reads waits for no device, unless that is asked for */
+            it->durable = durable == Py_None ? self->durable && it->writing_count > 0 : PyObject_IsTrue(durable) != 0;
     }
     Py_XDECREF(empty);
     return (PyObject *)it;
@@ -995,6 +1009,24 @@ static PyObject *store_truncate(Store *self, PyObject *args, PyObject *named)
 static PyObject *store_trim(Store *self, PyObject *args, PyObject *named)
 {
     return count_of(self, args, named, "|O&:trim", lcrvm_trim);
+}
+
+static PyObject *store_stats(Store *self, PyObject *args, PyObject *named)
+{
+    static char *names[] = {"node", NULL};
+    struct lcrvm_counters it = {.size = sizeof it};
+    struct lcrvm_fault why;
+    uint32_t node = 0;
+
+    if (!PyArg_ParseTupleAndKeywords(args, named, "|O&:stats", names, take_32, &node) || !is_live(self))
+        return NULL;
+    QUICKLY(self, &why, lcrvm_stats(self->handle, node, &it));
+    if (why.status != LCRVM_OK)
+        return fail(&why);
+    return named_tuple(stats_type, Py_BuildValue("kKKKKKKd", (unsigned long)it.open, (unsigned long long)it.log_words,
+                                                 (unsigned long long)it.commits, (unsigned long long)it.flushes,
+                                                 (unsigned long long)it.flushed, (unsigned long long)it.truncations,
+                                                 (unsigned long long)it.waits, 1e-6 * (double)it.longest_wait));
 }
 
 typedef enum lcrvm_status Moves(struct lcrvm_store *, uint32_t, uint32_t);
@@ -1044,7 +1076,7 @@ static PyObject *store_deliver(Store *self, PyObject *args, PyObject *named)
 static PyObject *store_copy(Store *self, PyObject *args, PyObject *named)
 {
     static char *names[] = {"path", NULL};
-    struct lcrvm_fault why = {.status = LCRVM_OK};
+    struct lcrvm_fault why = {.size = sizeof why};
     PyObject *given, *path = NULL, *answer = NULL;
 
     if (!PyArg_ParseTupleAndKeywords(args, named, "O:copy", names, &given) || !PyUnicode_FSConverter(given, &path))
@@ -1096,8 +1128,8 @@ static PyObject *store_repr(Store *self)
 static PyObject *create(PyObject *module, PyObject *args)
 {
     struct lcrvm_geometry geometry;
-    const struct lcrvm_options options = {.geometry = &geometry};
-    struct lcrvm_fault why = {.status = LCRVM_OK};
+    const struct lcrvm_options options = {.size = sizeof options, .geometry = &geometry};
+    struct lcrvm_fault why = {.size = sizeof why};
     PyObject *given, *path = NULL;
 
     (void)module;
@@ -1114,8 +1146,8 @@ static PyObject *create(PyObject *module, PyObject *args)
 static PyObject *use(PyObject *module, PyObject *args)
 {
     (void)module;
-    if (!PyArg_ParseTuple(args, "OOOOO:use", &make_error, &geometry_type, &commit_type, &delivered_type,
-                          &delivery_type))
+    if (!PyArg_ParseTuple(args, "OOOOOO:use", &make_error, &geometry_type, &commit_type, &delivered_type,
+                          &delivery_type, &stats_type))
         return NULL;
     Py_INCREF(args); /* and with it what is in it, for as long as the interpreter lasts */
     return none();
@@ -1162,6 +1194,9 @@ static PyGetSetDef transaction_values[] = {
      NULL},
     {NULL, NULL, NULL, NULL, NULL}};
 
+static PyMemberDef transaction_members[] = {
+    {"__weaklistoffset__", T_PYSSIZET, offsetof(Transaction, weak), READONLY, NULL}, {NULL, 0, 0, 0, NULL}};
+
 static PyType_Slot transaction_slots[] = {
     {Py_tp_doc, "Changes that are committed together, or not at all; made by Store.transaction.\n\n"
                 "In a `with` it begins, and it is committed at the end, or aborted where the block raises.\n"
@@ -1171,6 +1206,7 @@ static PyType_Slot transaction_slots[] = {
     {Py_tp_repr, transaction_repr},
     {Py_tp_methods, transaction_calls},
     {Py_tp_getset, transaction_values},
+    {Py_tp_members, transaction_members},
     {Py_mp_subscript, transaction_get},
     {Py_mp_ass_subscript, transaction_set},
     {0, NULL}};
@@ -1181,7 +1217,7 @@ static PyMethodDef store_calls[] = {
          "Makes a transaction that locks segments for writing, and others for reading alone.\n\n"
          "durable=False says that the commit need not be on the disk yet: a flush, or the close, sees to that. A\n"
          "durable one has also all that it read there. timeout is how many seconds the begin may wait. Both are by\n"
-         "default as the store was opened."),
+         "default as the store was opened, but a transaction that only reads is durable only where that is said."),
     CALL("flush", store_flush, NAMED,
          "flush($self, /, node=0)\n--\n\nMakes all commits durable; returns how many there were since the opening."),
     CALL("truncate", store_truncate, NAMED,
@@ -1204,6 +1240,8 @@ static PyMethodDef store_calls[] = {
     CALL("trim", store_trim, NAMED,
          "trim($self, /, node=0)\n--\n\nDrops the durable records that all nodes have applied; returns how many.\n\n"
          "Each truncation does so for its node."),
+    CALL("stats", store_stats, NAMED,
+         "stats($self, /, node=0)\n--\n\nCounts what a node has done since the opening, as Stats."),
     CALL("__enter__", store_enter, METH_NOARGS, NULL),
     CALL("__exit__", store_exit, METH_VARARGS, NULL),
     {NULL, NULL, 0, NULL}};
@@ -1214,6 +1252,9 @@ static PyGetSetDef store_values[] = {
     {"geometry", (getter)store_geometry, NULL, "How large it is.", NULL},
     {NULL, NULL, NULL, NULL, NULL}};
 
+static PyMemberDef store_members[] = {
+    {"__weaklistoffset__", T_PYSSIZET, offsetof(Store, weak), READONLY, NULL}, {NULL, 0, 0, 0, NULL}};
+
 static PyType_Slot store_slots[] = {
     {Py_tp_doc, "Store(path, geometry=None, durable=True, timeout=5.0)\n--\n\nA store that is open; see lcrvm.open."},
     {Py_tp_new, store_new},
@@ -1221,6 +1262,7 @@ static PyType_Slot store_slots[] = {
     {Py_tp_repr, store_repr},
     {Py_tp_methods, store_calls},
     {Py_tp_getset, store_values},
+    {Py_tp_members, store_members},
     {0, NULL}};
 
 static PyType_Spec transaction_spec = {"lcrvm.Transaction", sizeof(Transaction), 0, Py_TPFLAGS_DEFAULT,

@@ -1,9 +1,13 @@
 from types import TracebackType
 from typing import Any, Iterable, Optional, Sequence, Tuple, Type, TypeVar, Union, final
 
-from . import Commit, Delivered, Geometry, Path
+from . import Commit, Delivered, Geometry, Path, Stats
 
-Buffer = Union[bytes, bytearray, memoryview, Any]  # or whatever has the buffer protocol
+import array
+import ctypes
+import mmap
+
+Buffer = Union[bytes, bytearray, memoryview, array.array[Any], mmap.mmap, ctypes.Array[Any], ctypes.Structure]
 Slice = Tuple[int, slice]
 
 @final
@@ -47,6 +51,7 @@ class Store:
     def flush(self, node: int = 0) -> int: ...
     def truncate(self, node: int = 0) -> int: ...
     def trim(self, node: int = 0) -> int: ...
+    def stats(self, node: int = 0) -> Stats: ...
     def leave(self, node: int, segment: int) -> None: ...
     def arrive(self, node: int, segment: int) -> None: ...
     def deliver(self, node: int, record: int, segment: int, to: int) -> Delivered: ...

@@ -2,6 +2,7 @@
 from __future__ import annotations
 
 import errno
+import os
 import threading
 from typing import Any, ClassVar, Dict, Optional, Tuple, Type
 
@@ -34,8 +35,16 @@ class Error(Exception):
         for name in self.fields:
             setattr(self, name, values.get(name))
         super().__init__(f"{text}: {self._sentence()}" if text else self._sentence())
-        if isinstance(self, OSError):
-            self.errno = _system.get(self.code)
+        number = values.get("error") or _system.get(self.code)
+        if isinstance(self, OSError) and number:
+            name, colon, _ = text.partition(": ")
+            # (of OSError, whose types they keep)
+            setattr(self, "errno", number)
+            setattr(self, "strerror", os.strerror(number))
+            setattr(self, "filename", name if colon else None)
+
+    def __str__(self) -> str:
+        return str(self.args[0])
 
     def _sentence(self) -> str:
         return self.says.format(**{name: getattr(self, name) for name in self.fields})
@@ -57,7 +66,7 @@ class Down(Refused, code=1, says="the store is down: close it and open it again"
 
 
 class Unknown(Refused, code=2, says="a number is outside the store, or no record has it: see store.geometry"):
-    """A number is outside the geometry, or no record has it."""
+    """A number is outside the geometry, or no record has it. `text` names the number."""
 
 
 class Halted(Refused, code=3, says="a device of the node has failed: close the store and open it again"):
@@ -174,7 +183,12 @@ class RoundsSpent(Refused, code=23, says="the log has had its last round: copy t
 
 
 class DeviceFault(Error, OSError, code=24, says="mend what failed; close the store if it was open, and open it again"):
-    """A file failed, or could not be made or opened. An open store is over, and each later call raises the same."""
+    """A file failed, or could not be made or opened. An open store is over, and each later call raises the same.
+
+    `errno` and `strerror` are the system's, and `filename` is the file's, below the store's folder.
+    """
+
+    error: int
 
 
 class BadGeometry(Refused, code=25, says="the store has another size, from area {area} on: open it without a geometry"):
@@ -227,7 +241,7 @@ class Closed(Error, ValueError, code=100, says="the store is closed: open it aga
     """The store was closed."""
 
 
-_numbers = ("segment", "sequence", "applied", "area", "words", "tail", "need", "thread")
+_numbers = ("segment", "sequence", "applied", "area", "words", "tail", "need", "thread", "error")
 
 
 def error_of(code: int, text: str, *values: Optional[int]) -> Error:

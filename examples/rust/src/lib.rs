@@ -1,12 +1,12 @@
 //! lcrvm.h for Rust. A transaction that is dropped without a commit, by a panic also, is aborted; it cannot outlive its
 //! store. A store that is dropped is closed; `close` says what fails then.
 use std::ffi::{c_char, c_int, c_void, CStr, CString};
-use std::{fmt, marker::PhantomData, mem::ManuallyDrop, ptr};
+use std::{fmt, marker::PhantomData, mem::{size_of, ManuallyDrop}, ptr};
 
-#[repr(C)] #[derive(Clone, Copy, Debug)]
+#[derive(Clone, Copy, Debug)]
 pub struct Geometry { pub nodes: u32, pub threads: u32, pub segments: u32, pub pages: u32, pub words: u32 }
-#[repr(C)] struct Options { geometry: *const Geometry, threads: u32 }
-#[repr(C)] struct Fault { status: c_int, has_area: bool, fields: [u64; 7], text: [u8; 256] }
+#[repr(C)] struct Options { size: u32, geometry: *const [u32; 6], threads: u32, milliseconds: u32 }
+#[repr(C)] struct Fault { size: u32, status: c_int, error: c_int, has_area: bool, fields: [u64; 7], text: [u8; 256] }
 type Handle = *mut c_void;
 #[link(name = "lcrvm")]
 extern "C" {
@@ -41,7 +41,9 @@ fn name(of: &str) -> Result<CString> {
 }
 /// Makes a store of zeros in a folder; of no geometry, one as lcrvm.h says.
 pub fn create(folder: &str, geometry: Option<&Geometry>) -> Result {
-    let options = Options { geometry: geometry.map_or(ptr::null(), |size| size), threads: 0 };
+    let size = geometry.map(|it| [24, it.nodes, it.threads, it.segments, it.pages, it.words]);
+    let geometry = size.as_ref().map_or(ptr::null(), |it| it);
+    let options = Options { size: size_of::<Options>() as u32, geometry, threads: 0, milliseconds: 0 };
     check(unsafe { lcrvm_create(name(folder)?.as_ptr(), &options, ptr::null_mut()) })
 }
 pub struct Store { at: Handle }
