@@ -26,7 +26,7 @@ fi
 # The longest first: how many seconds each may take, its name, and the command.
 rows='
 900 embedded tests/embedded.sh $LCRVM $LC_C
-900 power tests/power.sh $LCRVM 1 500
+900 power tests/power.sh $LCRVM 1 500 $LC_C
 900 threads tests/threads.sh $LC_C
 900 refused_growths tests/refused_growths.sh
 600 python tests/python.sh $LC_C
@@ -49,6 +49,7 @@ rows='
 300 checks tests/checks.sh $LCRVM
 300 guide tests/guide.sh $LCRVM $LC_C
 300 outsiders tests/outsiders.sh
+300 tools tests/tools.sh
 60 words tests/words.sh $LCRVM
 60 runs tests/runs.sh $LCRVM
 60 examples tests/examples.sh $LCRVM

@@ -35,6 +35,11 @@
 #include <time.h>
 #include <unistd.h>
 
+/* A size, by its numbers. */
+#define SIZED(of_nodes, of_threads, of_segments, of_pages, of_words)                                                   \
+    {.size = sizeof(struct lcrvm_geometry), .nodes = of_nodes, .threads = of_threads, .segments = of_segments,         \
+     .pages = of_pages, .words = of_words}
+
 enum { PATH_BYTES = 512, MOST_TIMES = 10000, WAIT_MILLISECONDS = 1000 };
 
 /* ---- the calls of files, in place of the C library's */
@@ -117,7 +122,7 @@ static const char *below(const char *name, char path[PATH_BYTES])
 
 static void create(const struct lcrvm_geometry *geometry, const char *step)
 {
-    const struct lcrvm_options options = {.geometry = geometry};
+    const struct lcrvm_options options = {.size = sizeof options, .geometry = geometry};
 
     wants(lcrvm_create(folder, &options, NULL) == LCRVM_OK, step);
 }
@@ -246,7 +251,7 @@ static void take_times(const char *word)
 
 static void create_small(const char *word)
 {
-    static const struct lcrvm_geometry small = {1, 2, 2, 4, 64};
+    static const struct lcrvm_geometry small = SIZED(1, 2, 2, 4, 64);
 
     (void)word;
     create(&small, "create");
@@ -254,7 +259,7 @@ static void create_small(const char *word)
 
 static void create_greatest(const char *word)
 {
-    static const struct lcrvm_geometry greatest = {8, 16, 16, 1024, 4096};
+    static const struct lcrvm_geometry greatest = SIZED(8, 16, 16, 1024, 4096);
 
     (void)word;
     create(&greatest, "greatest");

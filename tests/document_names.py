@@ -38,7 +38,7 @@ DOCUMENTS = (
 
 BUILT = {".git", "out", "build", "__pycache__"}
 NO_SOURCES = ("docs/", "man/", "completion/", "tests/statements.txt", "tests/outside_names.txt")
-NO_SOURCE_SUFFIXES = {".md", ".edit", ".svg"}
+NO_SOURCE_SUFFIXES = {".md", ".edit", ".edits", ".svg"}
 
 COMMENTS = {
     ".rt": re.compile(r"//.*"),

@@ -1,8 +1,12 @@
-"""Reads the edits of crates/*/must-fail and crates/*/by-hand for tests/edits.sh, which says how it is called.
+"""Reads the edits of crates/*/must-fail/ and crates/*/by-hand/wrong_bodies.edits for tests/edits.sh, which says how it is called.
 
-An edit is a file of lines 'file: src/..', 'old: TEXT' and 'new: TEXT': TEXT stands once in that file, as the pairs before have made it.
+An edit is lines 'file: src/..', 'old: TEXT' and 'new: TEXT': TEXT stands once in that file, as the pairs before have made it. In
+must-fail/ it is a file, as the kit wants it; in the other it follows a line 'edit: NAME'.
 """
+import argparse
+import concurrent.futures
 import contextlib
+import datetime
 import pathlib
 import re
 import shutil
@@ -11,6 +15,8 @@ import sys
 import tempfile
 
 MOST_IN_THE_GATE = 6
+MOST_CRATES_IN_THE_GATE = 5
+BY_HAND = "by-hand/wrong_bodies.edits"
 PARTS = ("src", "specs", "proofs")
 FUNCTION = re.compile(r'^( *)(?:pub(?:\([a-z]+\))? )?(?:const )?(?:extern "C" )?fn (\w+)', re.M)
 
@@ -23,10 +29,29 @@ def function_at(text, place):
     return found[-1][2]
 
 
-def changes(edit, crate):
+def by_hand(crate):
+    """The edits of a crate that are tried by hand: of each its name and its lines. A ValueError says what is wrong with the file."""
+    found, file = [], crate / BY_HAND
+    for line in file.read_text(encoding="utf-8").splitlines() if file.is_file() else []:
+        kind, _, name = line.partition(": ")
+        if kind == "edit":
+            found.append((name, []))
+        elif found:
+            found[-1][1].append(line)
+        elif line:
+            raise ValueError("a line stands before the first 'edit:'")
+    return found
+
+
+def in_the_gate(crate):
+    """The edits of a crate that the gate tries: of each its name and its lines."""
+    return [(it.stem, it.read_text(encoding="utf-8").splitlines()) for it in sorted(crate.glob("must-fail/*"))]
+
+
+def changes(lines, crate):
     """Those of an edit, each as a source's path in the crate, the old text and the new one; a ValueError says why it is none."""
     made, path, old = [], None, None
-    for line in edit.read_text(encoding="utf-8").splitlines():
+    for line in lines:
         kind, _, rest = line.partition(":")
         rest = rest.removeprefix(" ")
         if kind == "file":
@@ -56,30 +81,48 @@ def made_in(made, crate):
     return texts
 
 
-def applied(edit, crate):
+def applied(lines, crate):
     """The texts of the files that the edit changes, by their path in the crate; a ValueError says why it cannot be applied."""
-    return made_in(changes(edit, crate), crate)
+    return made_in(changes(lines, crate), crate)
+
+
+def wrongs_of(crate):
+    """How many edits of the crate can be applied, and what is wrong with the others."""
+    wrongs, names, good = [], set(), 0
+    gate = in_the_gate(crate)
+    if len(gate) > MOST_IN_THE_GATE:
+        wrongs.append(f"{len(gate)} edits stand in must-fail/, and {MOST_IN_THE_GATE} are the most")
+    wrongs += [f"must-fail/{it.name}: it is no .edit" for it in sorted(crate.glob("must-fail/*")) if it.suffix != ".edit"]
+    try:
+        edits = gate + by_hand(crate)
+    except ValueError as why:
+        return 0, wrongs + [f"{BY_HAND}: {why}"]
+    for name, lines in edits:
+        try:
+            if name in names:
+                raise ValueError("its name stands twice")
+            names.add(name)
+            applied(lines, crate)
+            good += 1
+        except ValueError as why:
+            wrongs.append(f"{name}: {why}")
+    return good, wrongs
 
 
 def fits(top):
-    """Whether each edit can be applied, and no crate has too many in the gate."""
+    """Whether each edit can be applied, and no crate has too many in the gate, nor more crates than may have any."""
     good = wrong = 0
-    for crate in sorted((top / "crates").iterdir()):
-        names = {}
-        for folder in ("must-fail", "by-hand"):
-            edits = sorted((crate / folder).glob("*")) if (crate / folder).is_dir() else []
-            if folder == "must-fail" and len(edits) > MOST_IN_THE_GATE:
-                print(f"{crate.name}: {len(edits)} edits stand in must-fail/, and {MOST_IN_THE_GATE} are the most")
-                wrong += 1
-            for edit in edits:
-                try:
-                    if edit.suffix != ".edit" or edit.name in names:
-                        raise ValueError("it is no .edit, or its name stands twice")
-                    names[edit.name] = applied(edit, crate)
-                    good += 1
-                except ValueError as why:
-                    print(f"{edit.relative_to(top)}: {why}")
-                    wrong += 1
+    crates = sorted((top / "crates").iterdir())
+    gate = [it.name for it in crates if in_the_gate(it)]
+    if len(gate) > MOST_CRATES_IN_THE_GATE:
+        print(f"must-fail/ stands in {', '.join(gate)}, and {MOST_CRATES_IN_THE_GATE} crates are the most")
+        wrong += 1
+    for crate in crates:
+        fit, wrongs = wrongs_of(crate)
+        good += fit
+        wrong += len(wrongs)
+        for why in wrongs:
+            print(f"{crate.name}: {why}")
     print(f"{good} edits fit, {wrong} do not")
     return 1 if wrong else 0
 
@@ -138,9 +181,11 @@ def open_goals(said):
 
 def bare(top, name, edit):
     crate = top / "crates" / name
-    found = [crate / it / f"{edit.removesuffix('.edit')}.edit" for it in ("must-fail", "by-hand")]
-    file = next(it for it in found if it.is_file())
-    texts = applied(file, crate)
+    edits = dict(in_the_gate(crate) + by_hand(crate))
+    if edit not in edits:
+        print(f"{name} has no edit {edit}", file=sys.stderr)
+        return 2
+    texts = applied(edits[edit], crate)
     said = checked(top, name, texts, [])
     at_fault = sorted(set(re.findall(r"(?:\./)?(proofs/\S+?/Answers\.antt):\d+:\d+: error", said)))
     if not at_fault:
@@ -157,11 +202,11 @@ def bare(top, name, edit):
 
 
 class Edit:
-    """One of by-hand/: its name, its changes, and the functions that they stand in, as a source's path and a name."""
+    """One by hand: its name, its changes, and the functions that they stand in, as a source's path and a name."""
 
-    def __init__(self, file, crate):
-        self.name = file.stem
-        self.changes = changes(file, crate)
+    def __init__(self, name, lines, crate):
+        self.name = name
+        self.changes = changes(lines, crate)
         self.functions = set()
         texts = {}
         for path, old, new in self.changes:
@@ -269,73 +314,121 @@ def judged(edit, said, alone):
     return "refused by a name", errors[0][:160]
 
 
-def together(top, name):
-    """Tries the edits by hand of a crate, as many in one check as stand in different functions; answers how many are not refused."""
-    crate = top / "crates" / name
-    edits = [Edit(it, crate) for it in sorted((crate / "by-hand").glob("*.edit"))]
-    words = []
+class Tries:
+    """The edits by hand of a crate as they are tried: what was said of each, and which are left."""
 
-    def tell(edit, word, more=""):
-        words.append(word)
-        print(f"{name} {edit.name}: {word}" + (f": {more}" if more else ""), flush=True)
+    def __init__(self, top, name):
+        self.crate = top / "crates" / name
+        self.name = name
+        self.left = [Edit(edit, lines, self.crate) for edit, lines in by_hand(self.crate)]
+        self.alone = {it for it in self.left if it.is_of_none()}
+        self.words = {}
 
+    def tell(self, edit, word, more=""):
+        self.words[edit.name] = word
+        print(f"{self.name} {edit.name}: {word}" + (f": {more}" if more else ""), flush=True)
+
+    def choose(self):
+        """Takes as many as can be tried in one check; what they make of the sources."""
+        chosen, self.left = beside(self.left)
+        if any(it in self.alone for it in chosen):
+            first = next(it for it in chosen if it in self.alone)
+            self.left += [it for it in chosen if it is not first]
+            chosen = [first]
+        texts, chosen, again = made_together(chosen, self.crate)
+        self.left += again
+        return texts, chosen
+
+    def write(self, at, texts, chosen):
+        for path in {path for it in self.left + chosen for path, _, _ in it.changes}:
+            text = texts.get(path) or (self.crate / path).read_text(encoding="utf-8")
+            (at / path).write_text(text, encoding="utf-8")
+
+    def check_those_that_compile(self, at, texts, chosen):
+        """What a check says of the chosen ones, without those that do not compile; which these are."""
+        while True:
+            self.write(at, texts, chosen)
+            said = Said(check(at), texts, self.crate)
+            if said.verdicts or not chosen:
+                return said, chosen
+            places = {(path, int(line)) for path, line in re.findall(r"(src/\S+?\.rt):(\d+):", said.text) if path in texts}
+            wrong = [it for it in chosen if any(it.stands_at(path, line, texts) for path, line in places)]
+            if not wrong and len(chosen) > 1:
+                self.alone |= set(chosen)
+                self.left = chosen + self.left
+                return said, []
+            for it in wrong or list(chosen):
+                self.tell(it, "does not compile")
+                chosen.remove(it)
+            texts, chosen, again = made_together(chosen, self.crate)
+            self.left += again
+
+    def judge(self, said, chosen):
+        """Tells what a check says of the chosen ones; one that waits for what another has changed comes first in the next check."""
+        again = []
+        for it in chosen:
+            found = judged(it, said, len(chosen) == 1)
+            if found is None:
+                again.append(it)
+            else:
+                self.tell(it, *found)
+        if len(again) == len(chosen):
+            self.alone |= set(again)
+        self.left = again + self.left
+
+
+def together(top, name, until):
+    """Tries the edits by hand of a crate, as many in one check as stand in different functions, and begins none after a time."""
+    tries = Tries(top, name)
     with copied(top, name) as at:
-        alone = {it for it in edits if it.is_of_none()}
-        while edits:
-            chosen, edits = beside(edits)
-            if any(it in alone for it in chosen):
-                first = next(it for it in chosen if it in alone)
-                edits += [it for it in chosen if it is not first]
-                chosen = [first]
-            texts, chosen, left = made_together(chosen, crate)
-            edits += left
-            while True:
-                for path in {path for it in edits + chosen for path, _, _ in it.changes}:
-                    text = texts.get(path) or (crate / path).read_text(encoding="utf-8")
-                    (at / path).write_text(text, encoding="utf-8")
-                said = Said(check(at), texts, crate)
-                if said.verdicts or not chosen:
-                    break
-                places = {(path, int(line)) for path, line in re.findall(r"(src/\S+?\.rt):(\d+):", said.text) if path in texts}
-                wrong = [it for it in chosen if any(it.stands_at(path, line, texts) for path, line in places)]
-                if not wrong and len(chosen) > 1:
-                    alone |= set(chosen)
-                    edits, chosen = chosen + edits, []
-                    break
-                for it in wrong or list(chosen):
-                    tell(it, "does not compile")
-                    chosen.remove(it)
-                texts, chosen, left = made_together(chosen, crate)
-                edits += left
-            again = []
-            for it in chosen:
-                found = judged(it, said, len(chosen) == 1)
-                if found is None:
-                    again.append(it)
-                else:
-                    tell(it, *found)
-            # (one that waits for what another has changed comes first in the next check; where all wait, each is tried alone)
-            if len(again) == len(chosen):
-                alone |= set(again)
-            edits = again + edits
+        while tries.left and (until is None or datetime.datetime.now() < until):
+            texts, chosen = tries.choose()
+            said, chosen = tries.check_those_that_compile(at, texts, chosen)
+            tries.judge(said, chosen)
             for path in list(texts):
-                (at / path).write_text((crate / path).read_text(encoding="utf-8"), encoding="utf-8")
-    refused = words.count("refused")
-    print(f"{name}: {refused} refused, {len(words) - refused} not", flush=True)
-    return len(words) - refused
+                (at / path).write_text((tries.crate / path).read_text(encoding="utf-8"), encoding="utf-8")
+    for it in tries.left:
+        tries.tell(it, "not tried")
+    return tries
+
+
+def all_together(top, names, lanes, until):
+    """Tries those of several crates, so many crates side by side; prints how many of each were refused, and who was not."""
+    with concurrent.futures.ThreadPoolExecutor(lanes) as pool:
+        tried = list(pool.map(lambda name: together(top, name, until), names))
+    for it in tried:
+        refused = list(it.words.values()).count("refused")
+        print(f"{it.name}: {refused} refused, {len(it.words) - refused} not")
+    survivors = [f"{it.name} {edit}: {word}" for it in tried for edit, word in it.words.items() if word != "refused"]
+    for line in survivors:
+        print(line)
+    print(f"{sum(len(it.words) for it in tried) - len(survivors)} refused, {len(survivors)} not")
+    return 1 if survivors else 0
+
+
+def end_time(text):
+    """The next time of the clock that reads HH:MM."""
+    now = datetime.datetime.now()
+    end = datetime.datetime.combine(now.date(), datetime.datetime.strptime(text, "%H:%M").time())
+    return end if end > now else end + datetime.timedelta(days=1)
 
 
 def main(words):
-    top = pathlib.Path(words[0])
-    if words[1:] == ["--fits"]:
+    parser = argparse.ArgumentParser(prog="tests/edits.sh", description="Tries wrong bodies that the prover has to refuse.")
+    what = parser.add_mutually_exclusive_group(required=True)
+    what.add_argument("--fits", action="store_true", help="look that each edit can be applied (seconds; proves nothing)")
+    what.add_argument("--together", action="store_true", help="try the edits by hand, several in one check")
+    what.add_argument("--bare", nargs=2, metavar=("NAME", "EDIT"), help="print the goals that an edit alone leaves open")
+    parser.add_argument("-j", type=int, default=1, metavar="N", dest="lanes", help="so many crates side by side")
+    parser.add_argument("--until", type=end_time, metavar="HH:MM", help="begin no check after this time")
+    parser.add_argument("names", nargs="*", metavar="NAME", help="these crates; all, if left out")
+    top, said = pathlib.Path(words[0]), parser.parse_args(words[1:])
+    if said.fits:
         return fits(top)
-    if len(words) == 4 and words[1] == "--bare":
-        return bare(top, words[2], words[3])
-    if words[1:2] == ["--together"]:
-        names = words[2:] or sorted(it.parent.name for it in top.glob("crates/*/by-hand"))
-        return 1 if sum([together(top, name) for name in names]) else 0
-    print("usage: tests/edits.sh [-j N] [NAME..] | --fits | --together [NAME..] | --bare NAME EDIT", file=sys.stderr)
-    return 2
+    if said.bare:
+        return bare(top, *said.bare)
+    names = said.names or sorted(it.parents[1].name for it in top.glob(f"crates/*/{BY_HAND}"))
+    return all_together(top, names, said.lanes, said.until)
 
 
 if __name__ == "__main__":

@@ -3,8 +3,9 @@
 # kills amid its commits, after which the program lcrvm, and the C program by turns, have to find each commit that was
 # acknowledged; each of its writes and syncs failing in turn, after which `lcrvm recover`, and the library itself by turns, have
 # to find them; each write and sync of the making of a store, of a copy, and of an opening that copies its files failing in turn,
-# after which nothing is left of it; each allocation refused in turn, after which the call is done once more and all memory is
-# given back; and each choice of standard descriptors closed, of which no file of the store may take the place.
+# after which nothing is left of it; each write and sync of an opening that recovers failing in turn, after which the next one has
+# all; each allocation refused in turn, after which the call is done once more and all memory is given back; and each choice of
+# standard descriptors closed, of which no file of the store may take the place.
 #
 # usage: tests/embedded.sh [PROGRAM [LIBRARY [HEAP]]]
 #   PROGRAM   default: crates/lcrvm/out/lcrvm
@@ -140,6 +141,27 @@ for mode in copies renews; do
     done
     echo "$((call - 1)) writes and syncs of $mode failed in turn"
 done
+
+# The same of an opening that recovers; the next one has all.
+mkdir "$work/left"
+"$program" init "$work/left" --segments 2 --pages 8 --words 1024
+"$work/test" leaves "$work/left" > "$work/told" || fails "leaves: no commits"
+call=1
+while :; do
+    rm -rf "$work/one"
+    cp -r "$work/left" "$work/one"
+    status=0
+    "$work/test" recovers "$work/one" $call || status=$?
+    left=$(names_in "$work/one")
+    if [ "$left" = 'lcrvm.store log0 seg1 seg2 ' ]; then passes; else fails "call $call of a recovery: the folder has $left"; fi
+    case $status in
+        0) break ;;
+        3) passes ;;
+        *) fails "call $call of a recovery: status $status"; break ;;
+    esac
+    call=$((call + 1))
+done
+echo "$((call - 1)) writes and syncs of a recovery failed in turn"
 
 mkdir "$work/memory"
 LD_PRELOAD=$work/refuse.so "$work/test" memory "$work/memory" > "$work/whole" || fails "memory: $(tail -n 1 "$work/whole")"

@@ -12,6 +12,9 @@
           copies      the same of the copy of a store
           renews      opens a store that has the mark of a fault, of whose writes and syncs the Nth fails: status 3
                       where that was answered, 0 where there are fewer
+          leaves      makes twelve commits, and changes of every page, and ends without a close
+          recovers    opens a store that was left so, of whose writes and syncs the Nth fails: status 3 where that was
+                      answered, 0 where there are fewer
           memory      makes a store, works on it and prints what came of it; what finds no memory is done once more.
                       All memory has to be given back
           makes       makes a store with a commit, for `copies` and `renews`
@@ -36,7 +39,13 @@
 #include <sys/stat.h>
 #include <sys/syscall.h>
 #include <sys/wait.h>
+#include <time.h>
 #include <unistd.h>
+
+/* A size, by its numbers. */
+#define SIZED(of_nodes, of_threads, of_segments, of_pages, of_words)                                                   \
+    {.size = sizeof(struct lcrvm_geometry), .nodes = of_nodes, .threads = of_threads, .segments = of_segments,         \
+     .pages = of_pages, .words = of_words}
 
 enum {
     PLACES = 32,
@@ -168,7 +177,7 @@ static int descriptors(void)
 static struct lcrvm_store *opened(const char *folder)
 {
     struct lcrvm_store *store;
-    struct lcrvm_fault fault;
+    struct lcrvm_fault fault = {.size = sizeof fault};
     enum lcrvm_status status = lcrvm_open(folder, NULL, &store, &fault);
 
     if (status != LCRVM_OK)
@@ -259,7 +268,7 @@ static void given_up(struct lcrvm_store *store)
     static const uint32_t first[] = {1};
     char bytes[1];
     uint32_t thread = 0;
-    struct lcrvm_fault fault;
+    struct lcrvm_fault fault = {.size = sizeof fault};
 
     ANSWERS(lcrvm_begin_transaction(store, 0, 0, first, 1, NULL, 0), LCRVM_DEVICE_FAULT);
     ANSWERS(lcrvm_set_range(store, 9, 9, 9, 9, 9), LCRVM_DEVICE_FAULT);
@@ -276,13 +285,13 @@ static void given_up(struct lcrvm_store *store)
     ANSWERS(lcrvm_deliver(store, 0, 1, 1, 0, NULL), LCRVM_DEVICE_FAULT);
     ANSWERS(lcrvm_trim(store, 0, NULL), LCRVM_DEVICE_FAULT);
     ANSWERS(lcrvm_begin(store, 0, &thread, first, 1, NULL, 0, 1000), LCRVM_DEVICE_FAULT);
-    CHECK(thread == LCRVM_NO_THREAD);
+    CHECK(thread == LCRVM_NO_TRANSACTION);
     thread = 0;
     ANSWERS(lcrvm_commit(store, 0, &thread, true, NULL), LCRVM_DEVICE_FAULT);
-    CHECK(thread == LCRVM_NO_THREAD);
+    CHECK(thread == LCRVM_NO_TRANSACTION);
     thread = 0;
     ANSWERS(lcrvm_abort(store, 0, &thread), LCRVM_DEVICE_FAULT);
-    CHECK(thread == LCRVM_NO_THREAD);
+    CHECK(thread == LCRVM_NO_TRANSACTION);
     ANSWERS(lcrvm_put(store, 0, 0, 1, 0, "x", 1), LCRVM_DEVICE_FAULT);
     ANSWERS(lcrvm_copy(store, "/nowhere/at/all"), LCRVM_DEVICE_FAULT);
     CHECK(is_failure(lcrvm_fault_of(store)));
@@ -306,7 +315,7 @@ static void let_descriptors(bool more)
 static int faults(const char *folder, const char *number)
 {
     struct lcrvm_store *store;
-    struct lcrvm_fault fault;
+    struct lcrvm_fault fault = {.size = sizeof fault};
     enum lcrvm_status status;
     int before = descriptors();
 
@@ -361,9 +370,9 @@ static int standing(const char *path)
 
 static int creates(const char *folder, const char *number)
 {
-    static const struct lcrvm_geometry geometry = {2, 1, 2, 1, 64};
-    const struct lcrvm_options options = {.geometry = &geometry};
-    struct lcrvm_fault fault;
+    static const struct lcrvm_geometry geometry = SIZED(2, 1, 2, 1, 64);
+    const struct lcrvm_options options = {.size = sizeof options, .geometry = &geometry};
+    struct lcrvm_fault fault = {.size = sizeof fault};
     enum lcrvm_status status;
     int before = descriptors();
     bool was_there = standing(folder) == 0;
@@ -400,8 +409,8 @@ static int shows(const char *folder)
 
 /* What the tests of the calls have. */
 
-static const struct lcrvm_geometry one = {1, 2, 2, 4, 64};
-static const struct lcrvm_geometry two_nodes = {2, 1, 3, 1, 64};
+static const struct lcrvm_geometry one = SIZED(1, 2, 2, 4, 64);
+static const struct lcrvm_geometry two_nodes = SIZED(2, 1, 3, 1, 64);
 
 /* The path of a name below a folder. */
 static const char *below(const char *folder, const char *name)
@@ -420,9 +429,11 @@ static void beside(const char *folder, const char *end, char path[BESIDE_BYTES])
 
 static struct lcrvm_store *opened_as(const char *folder, const struct lcrvm_geometry *geometry)
 {
-    const struct lcrvm_options options = {.geometry = geometry, .threads = geometry != NULL ? 99 : 0};
+    const struct lcrvm_options options = {
+        .size = sizeof options, .geometry = geometry, .threads = geometry != NULL ? 99 : 0,
+    };
     struct lcrvm_store *store;
-    struct lcrvm_fault fault;
+    struct lcrvm_fault fault = {.size = sizeof fault};
 
     ANSWERS(lcrvm_open(folder, &options, &store, &fault), LCRVM_OK);
     if (store == NULL) {
@@ -436,7 +447,7 @@ static struct lcrvm_store *opened_as(const char *folder, const struct lcrvm_geom
 /* A new store. */
 static struct lcrvm_store *made_as(const char *folder, const struct lcrvm_geometry *geometry)
 {
-    const struct lcrvm_options options = {.geometry = geometry};
+    const struct lcrvm_options options = {.size = sizeof options, .geometry = geometry};
 
     ANSWERS(lcrvm_create(folder, &options, NULL), LCRVM_OK);
     return opened_as(folder, geometry);
@@ -444,7 +455,7 @@ static struct lcrvm_store *made_as(const char *folder, const struct lcrvm_geomet
 
 static void close_well(struct lcrvm_store *store)
 {
-    struct lcrvm_fault fault;
+    struct lcrvm_fault fault = {.size = sizeof fault};
 
     ANSWERS(lcrvm_close(store, &fault), LCRVM_OK);
     CHECK(fault.status == LCRVM_OK);
@@ -456,7 +467,8 @@ static enum lcrvm_status begin(struct lcrvm_store *store, uint32_t node, uint32_
 }
 
 /* Writes these bytes, of a range of their own, in the transaction of thread 0. */
-static enum lcrvm_status put(struct lcrvm_store *store, uint32_t node, uint32_t segment, uint32_t offset, const char *text)
+static enum lcrvm_status put(struct lcrvm_store *store, uint32_t node, uint32_t segment, uint32_t offset,
+                             const char *text)
 {
     uint32_t length = (uint32_t)strlen(text);
     enum lcrvm_status status = lcrvm_set_range(store, node, 0, segment, offset, length);
@@ -526,9 +538,9 @@ static void test_calls(const char *folder)
 {
     static const uint32_t first[] = {1}, third[] = {3};
     struct lcrvm_store *store = made_as(folder, &two_nodes), *other;
-    struct lcrvm_commit commit;
+    struct lcrvm_record commit;
     struct lcrvm_delivered delivered;
-    struct lcrvm_fault fault;
+    struct lcrvm_fault fault = {.size = sizeof fault};
     uint64_t records = 0, count = 0;
     char bytes[5] = "";
 
@@ -603,15 +615,25 @@ static bool has_length(const char *path, off_t len)
     return stat(path, &at) == 0 && at.st_size == len;
 }
 
+/* Whether a fault has the system's number, and as its text a path with this end and the system's words. */
+static bool is_of(const struct lcrvm_fault *fault, const char *end, int error)
+{
+    char wanted[PATH_BYTES];
+    const size_t length = (size_t)snprintf(wanted, sizeof wanted, "%s: %s", end, strerror(error));
+    const size_t said = strlen(fault->text);
+
+    return fault->error == error && said >= length && strcmp(fault->text + said - length, wanted) == 0;
+}
+
 static void test_creation(const char *folder)
 {
-    const struct lcrvm_options options = {.geometry = &one};
-    struct lcrvm_fault fault;
+    const struct lcrvm_options options = {.size = sizeof options, .geometry = &one};
+    struct lcrvm_fault fault = {.size = sizeof fault};
     struct lcrvm_store *store;
     int before = descriptors();
 
     ANSWERS(lcrvm_create(below(folder, "further"), &options, &fault), LCRVM_DEVICE_FAULT);
-    CHECK(strcmp(fault.text, strerror(ENOENT)) == 0 && standing(folder) == -1);
+    CHECK(is_of(&fault, "/creation/further", ENOENT) && standing(folder) == -1);
     ANSWERS(lcrvm_create(folder, &options, &fault), LCRVM_OK);
     CHECK(fault.status == LCRVM_OK && fault.text[0] == '\0');
     CHECK(is_zeros(below(folder, "log0"), 65 * 8));
@@ -619,8 +641,9 @@ static void test_creation(const char *folder)
     CHECK(access(below(folder, "log1"), F_OK) != 0 && access(below(folder, "seg3"), F_OK) != 0);
     ANSWERS(lcrvm_create(folder, &options, &fault), LCRVM_EXISTS);
     ANSWERS(lcrvm_create(below(folder, "log0"), &options, &fault), LCRVM_DEVICE_FAULT);
-    CHECK(strcmp(fault.text, strerror(ENOTDIR)) == 0);
-    ANSWERS(lcrvm_create("", &options, NULL), LCRVM_DEVICE_FAULT);
+    CHECK(is_of(&fault, "/creation/log0", ENOTDIR));
+    ANSWERS(lcrvm_create("", &options, &fault), LCRVM_DEVICE_FAULT);
+    CHECK(strcmp(fault.text, "the path is empty") == 0 && fault.error == ENOENT);
     CHECK(symlink("nowhere", below(folder, "link")) == 0);
     ANSWERS(lcrvm_create(below(folder, "link"), &options, NULL), LCRVM_DEVICE_FAULT);
     CHECK(unlink(below(folder, "link")) == 0 && standing(folder) == 4);
@@ -633,8 +656,8 @@ static void test_creation(const char *folder)
 /* Nothing is made where one name is taken, be it by a link to nothing, or where the folder is locked. */
 static void test_creation_is_refused(const char *folder)
 {
-    const struct lcrvm_options options = {.geometry = &one};
-    struct lcrvm_fault fault;
+    const struct lcrvm_options options = {.size = sizeof options, .geometry = &one};
+    struct lcrvm_fault fault = {.size = sizeof fault};
     int before, locked;
 
     CHECK(mkdir(folder, 0777) == 0);
@@ -659,23 +682,147 @@ static void test_creation_is_refused(const char *folder)
 static void test_sizes(const char *folder)
 {
     static const struct lcrvm_geometry sizes[] = {
-        {0, 1, 1, 1, 64}, {9, 1, 1, 1, 64},  {65537, 1, 1, 1, 64}, {1, 0, 1, 1, 64},    {1, 17, 1, 1, 64}, {1, 65537, 1, 1, 64},
-        {1, 1, 0, 1, 64}, {1, 1, 17, 1, 64}, {1, 1, 1, 0, 64},     {1, 1, 1, 1025, 64}, {1, 1, 1, 1, 63},  {1, 1, 1, 1, 4097},
+        SIZED(0, 1, 1, 1, 64), SIZED(9, 1, 1, 1, 64),     SIZED(65537, 1, 1, 1, 64), SIZED(1, 0, 1, 1, 64),
+        SIZED(1, 17, 1, 1, 64), SIZED(1, 65537, 1, 1, 64), SIZED(1, 1, 0, 1, 64),     SIZED(1, 1, 17, 1, 64),
+        SIZED(1, 1, 1, 0, 64), SIZED(1, 1, 1, 1025, 64),  SIZED(1, 1, 1, 1, 63),     SIZED(1, 1, 1, 1, 4097),
     };
-    const struct lcrvm_options threads = {.threads = 17};
+    const struct lcrvm_options threads = {.size = sizeof threads, .threads = 17};
+    const struct lcrvm_options as_one = {.size = sizeof as_one, .geometry = &one};
     struct lcrvm_store *store;
-    struct lcrvm_fault fault;
+    struct lcrvm_fault fault = {.size = sizeof fault};
 
     for (size_t i = 0; i < sizeof sizes / sizeof sizes[0]; i++) {
-        const struct lcrvm_options options = {.geometry = &sizes[i]};
+        const struct lcrvm_options options = {.size = sizeof options, .geometry = &sizes[i]};
 
         ANSWERS(lcrvm_create(folder, &options, &fault), LCRVM_UNKNOWN);
         CHECK(fault.status == LCRVM_UNKNOWN);
         ANSWERS(lcrvm_open(folder, &options, &store, &fault), LCRVM_UNKNOWN);
         CHECK(store == NULL && fault.status == LCRVM_UNKNOWN);
     }
-    ANSWERS(lcrvm_open(folder, &threads, &store, NULL), LCRVM_UNKNOWN);
-    ANSWERS(lcrvm_open(folder, NULL, &store, NULL), LCRVM_NO_STORE);
+    ANSWERS(lcrvm_open(folder, &threads, &store, &fault), LCRVM_UNKNOWN);
+    CHECK(strcmp(fault.text, "threads 17: a store has 1 to 16") == 0);
+    ANSWERS(lcrvm_open(folder, NULL, &store, &fault), LCRVM_NO_STORE);
+    CHECK(is_of(&fault, "/sizes", ENOENT));
+    ANSWERS(lcrvm_open(folder, &as_one, &store, &fault), LCRVM_NO_STORE);
+    CHECK(is_of(&fault, "/sizes", ENOENT));
+    CHECK(mkdir(folder, 0777) == 0);
+    ANSWERS(lcrvm_open(folder, &as_one, &store, &fault), LCRVM_NO_STORE);
+    CHECK(strcmp(fault.text, "log0 is missing") == 0);
+}
+
+/* A structure whose size is none, or that has set what this version does not know, is refused before anything is done;
+   what was built for a later version, or for none of its new fields, is taken. */
+static void test_structures(const char *folder)
+{
+    struct {
+        struct lcrvm_options known;
+        uint64_t later;
+    } longer = {{.size = sizeof longer, .geometry = &one}, 0};
+    struct {
+        struct lcrvm_fault known;
+        uint64_t later;
+    } told = {{.size = sizeof told}, 7};
+    struct lcrvm_geometry none = one;
+    struct lcrvm_options options = {.geometry = &one};
+    struct lcrvm_fault fault = {.size = sizeof fault}, small = {.size = sizeof small - 1, .status = LCRVM_FULL};
+    struct lcrvm_store *store;
+
+    CHECK(strcmp(lcrvm_version(), LCRVM_VERSION) == 0);
+    ANSWERS(lcrvm_create(folder, &options, &fault), LCRVM_MISUSE);
+    CHECK(strncmp(fault.text, "options: ", 9) == 0 && standing(folder) == -1);
+    longer.later = 1;
+    ANSWERS(lcrvm_create(folder, &longer.known, &fault), LCRVM_MISUSE);
+    options.size = sizeof options;
+    options.geometry = &none;
+    none.size = sizeof none - 1;
+    ANSWERS(lcrvm_create(folder, &options, &fault), LCRVM_MISUSE);
+    CHECK(strncmp(fault.text, "geometry: ", 10) == 0);
+    ANSWERS(lcrvm_create(folder, NULL, &small), LCRVM_MISUSE);
+    CHECK(small.status == LCRVM_FULL && standing(folder) == -1);
+    longer.later = 0;
+    ANSWERS(lcrvm_create(folder, &longer.known, &told.known), LCRVM_OK);
+    CHECK(told.known.size == sizeof told && told.later == 7);
+    ANSWERS(lcrvm_open(folder, &longer.known, &store, &told.known), LCRVM_OK);
+    CHECK(lcrvm_geometry_of(store)->size == sizeof(struct lcrvm_geometry));
+    ANSWERS(lcrvm_close(store, &small), LCRVM_MISUSE);
+    CHECK(lcrvm_fault_of(store)->size == sizeof(struct lcrvm_fault));
+    ANSWERS(lcrvm_close(store, &told.known), LCRVM_OK);
+}
+
+/* A refusal for a number names it, with its range. */
+static void test_numbers_outside(const char *folder)
+{
+    static const uint32_t segments[] = {1, 1, 3}, first[] = {1, 1};
+    struct lcrvm_store *store = made_as(folder, &one);
+    uint32_t transaction;
+
+    ANSWERS(lcrvm_begin(store, 0, &transaction, segments, 3, NULL, 0, 0), LCRVM_UNKNOWN);
+    CHECK(strcmp(lcrvm_fault_of(store)->text, "segment 3: the store has 1 to 2") == 0);
+    ANSWERS(lcrvm_begin(store, 0, &transaction, first, 1, segments, 3, 0), LCRVM_UNKNOWN);
+    CHECK(strcmp(lcrvm_fault_of(store)->text, "segment 3: the store has 1 to 2") == 0);
+    ANSWERS(lcrvm_begin(store, 5, &transaction, first, 1, NULL, 0, 0), LCRVM_UNKNOWN);
+    CHECK(strcmp(lcrvm_fault_of(store)->text, "node 5: the store has 0 to 0") == 0);
+    ANSWERS(lcrvm_put(store, 0, 9, 1, 0, "x", 1), LCRVM_UNKNOWN);
+    CHECK(strcmp(lcrvm_fault_of(store)->text, "transaction 9: the store has 0 to 1") == 0);
+    ANSWERS(lcrvm_leave(store, 0, 0), LCRVM_UNKNOWN);
+    CHECK(strcmp(lcrvm_fault_of(store)->text, "segment 0: the store has 1 to 2") == 0);
+    /* A segment that is named twice is one segment. */
+    ANSWERS(lcrvm_begin(store, 0, &transaction, first, 2, first, 2, 0), LCRVM_OK);
+    ANSWERS(lcrvm_put(store, 0, transaction, 1, 0, "x", 1), LCRVM_OK);
+    ANSWERS(lcrvm_commit(store, 0, &transaction, false, NULL), LCRVM_OK);
+    /* An abort of no transaction does nothing, of whatever store. */
+    CHECK(transaction == LCRVM_NO_TRANSACTION);
+    ANSWERS(lcrvm_abort(store, 0, &transaction), LCRVM_OK);
+    ANSWERS(lcrvm_abort(store, 0, NULL), LCRVM_OK);
+    ANSWERS(lcrvm_abort(NULL, 0, &transaction), LCRVM_OK);
+    close_well(store);
+}
+
+static int64_t milliseconds_now(void)
+{
+    struct timespec at;
+
+    clock_gettime(CLOCK_MONOTONIC, &at);
+    return (int64_t)at.tv_sec * 1000 + at.tv_nsec / 1000000;
+}
+
+/* An opening waits for a store that another process has open, as long as it is told to. */
+static void test_opening_waits(const char *folder)
+{
+    struct lcrvm_options options = {.size = sizeof options, .milliseconds = 50};
+    struct lcrvm_fault fault = {.size = sizeof fault};
+    struct lcrvm_store *store;
+    int64_t begun;
+    int ends[2], other_ends[2];
+    char byte = 0, wanted[64];
+    pid_t child;
+
+    close_well(made_as(folder, &one));
+    CHECK(pipe(ends) == 0 && pipe(other_ends) == 0);
+    child = fork();
+    if (child == 0) {
+        store = opened(folder);
+        CHECK(write(ends[1], "x", 1) == 1 && read(other_ends[0], &byte, 1) == 1);
+        usleep(200000);
+        _exit(lcrvm_close(store, NULL) != LCRVM_OK);
+    }
+    CHECK(read(ends[0], &byte, 1) == 1);
+    begun = milliseconds_now();
+    ANSWERS(lcrvm_open(folder, &options, &store, &fault), LCRVM_STORE_IN_USE);
+    CHECK(milliseconds_now() - begun >= 50);
+    snprintf(wanted, sizeof wanted, "store in use by process %ld", (long)child);
+    CHECK(access("/proc/locks", R_OK) != 0 || strcmp(fault.text, wanted) == 0);
+    options.milliseconds = 60000;
+    begun = milliseconds_now();
+    CHECK(write(other_ends[1], "x", 1) == 1);
+    ANSWERS(lcrvm_open(folder, &options, &store, &fault), LCRVM_OK);
+    CHECK(milliseconds_now() - begun >= 150 && milliseconds_now() - begun < 30000);
+    close_well(store);
+    exits(child, 0);
+    for (int end = 0; end < 2; end++) {
+        close(ends[end]);
+        close(other_ends[end]);
+    }
 }
 
 /* A file could not be opened, since nothing stands under its name. */
@@ -690,10 +837,12 @@ static bool is_missing(const struct lcrvm_fault *fault, const char *name)
 /* What is opened has to have the size that is asked for, and as found its files have to fit together. */
 static void test_openings(const char *folder)
 {
-    const struct lcrvm_geometry fewer = {1, 2, 1, 4, 64}, longer = {1, 2, 2, 4, 65};
-    const struct lcrvm_options as_one = {.geometry = &one}, as_fewer = {.geometry = &fewer}, as_longer = {.geometry = &longer};
+    const struct lcrvm_geometry fewer = SIZED(1, 2, 1, 4, 64), longer = SIZED(1, 2, 2, 4, 65);
+    const struct lcrvm_options as_one = {.size = sizeof as_one, .geometry = &one};
+    const struct lcrvm_options as_fewer = {.size = sizeof as_fewer, .geometry = &fewer};
+    const struct lcrvm_options as_longer = {.size = sizeof as_longer, .geometry = &longer};
     struct lcrvm_store *store = made_as(folder, &one);
-    struct lcrvm_fault fault;
+    struct lcrvm_fault fault = {.size = sizeof fault};
 
     close_well(store);
     /* The folder states no size. */
@@ -732,9 +881,9 @@ static void write_text(const char *path, const char *bytes, size_t len)
 static void opens_not(const char *folder, const struct lcrvm_geometry *geometry, enum lcrvm_status status,
                       uint64_t area, const char *text)
 {
-    const struct lcrvm_options options = {.geometry = geometry};
+    const struct lcrvm_options options = {.size = sizeof options, .geometry = geometry};
     struct lcrvm_store *store;
-    struct lcrvm_fault fault = {.status = LCRVM_OK};
+    struct lcrvm_fault fault = {.size = sizeof fault};
 
     ANSWERS(lcrvm_open(folder, &options, &store, &fault), status);
     CHECK(store == NULL && fault.area == area && strcmp(fault.text, text) == 0);
@@ -744,12 +893,22 @@ static void opens_not(const char *folder, const struct lcrvm_geometry *geometry,
         lcrvm_close(store, NULL);
 }
 
+/* A store that this process has open is told with the process, where the system lists its locks. */
+static void is_in_use(const char *folder, const struct lcrvm_geometry *geometry, const char *file)
+{
+    char text[64];
+
+    snprintf(text, sizeof text, access("/proc/locks", R_OK) == 0 ? "%sstore in use by process %ld" : "%sstore in use",
+             file, (long)getpid());
+    opens_not(folder, geometry, LCRVM_STORE_IN_USE, 0, text);
+}
+
 /* The size stands in a file of its own. Where a file of the store is missing it is not opened, neither by that
    size, as found or not, nor by that of the files which are left. */
 static void test_missing_files(const char *folder)
 {
-    static const struct lcrvm_geometry size = {2, 1, 2, 1, 64}, one_log = {1, 1, 2, 1, 64};
-    static const struct lcrvm_geometry one_segment = {2, 1, 1, 1, 64};
+    static const struct lcrvm_geometry size = SIZED(2, 1, 2, 1, 64), one_log = SIZED(1, 1, 2, 1, 64);
+    static const struct lcrvm_geometry one_segment = SIZED(2, 1, 1, 1, 64);
     static const char *const names[] = {"log0", "log1", "seg1", "seg2"};
     char text[MOST_BYTES], aside[BESIDE_BYTES];
     struct lcrvm_store *store = made_as(folder, &size);
@@ -789,7 +948,7 @@ static void test_missing_files(const char *folder)
    says. */
 static void test_another_size(const char *folder)
 {
-    static const struct lcrvm_geometry size = {2, 3, 2, 2, 64}, alike = {1, 1, 2, 1, 67};
+    static const struct lcrvm_geometry size = SIZED(2, 3, 2, 2, 64), alike = SIZED(1, 1, 2, 1, 67);
     static const struct {
         const char *text, *said;
         int by_size, as_found; /* the area; below 0 a file is missing */
@@ -891,8 +1050,8 @@ static void test_texts_of_no_size(const char *folder)
 /* A file, a folder or a link to nothing under this name lets no store be made. */
 static void creates_not_beside(const char *folder, const char *name)
 {
-    const struct lcrvm_options options = {.geometry = &one};
-    struct lcrvm_fault fault;
+    const struct lcrvm_options options = {.size = sizeof options, .geometry = &one};
+    struct lcrvm_fault fault = {.size = sizeof fault};
 
     for (int kind = 0; kind < 3; kind++) {
         if (kind == 0)
@@ -935,9 +1094,10 @@ static void test_creation_beside_others(const char *folder)
    room. */
 static void test_creation_that_fails(const char *folder)
 {
-    static const struct lcrvm_geometry most = {8, 1, 16, 1, 64};
-    const struct lcrvm_options options = {.geometry = &one}, most_options = {.geometry = &most};
-    struct lcrvm_fault fault;
+    static const struct lcrvm_geometry most = SIZED(8, 1, 16, 1, 64);
+    const struct lcrvm_options options = {.size = sizeof options, .geometry = &one};
+    const struct lcrvm_options most_options = {.size = sizeof most_options, .geometry = &most};
+    struct lcrvm_fault fault = {.size = sizeof fault};
     char wanted[256];
 
     CHECK(mkdir(folder, 0777) == 0);
@@ -967,8 +1127,8 @@ static void test_creation_that_fails(const char *folder)
 /* A creation that was cut leaves no store, up to its last write. */
 static void test_creation_that_is_cut(const char *folder)
 {
-    static const struct lcrvm_geometry size = {2, 1, 2, 1, 64};
-    const struct lcrvm_options options = {.geometry = &size};
+    static const struct lcrvm_geometry size = SIZED(2, 1, 2, 1, 64);
+    const struct lcrvm_options options = {.size = sizeof options, .geometry = &size};
     char path[BESIDE_BYTES], number[16];
 
     for (int call = 1; call <= 10; call++) {
@@ -1010,7 +1170,7 @@ static void link_files(const char *from, const char *to, const char *const names
 static void test_files_of_two_folders(const char *folder)
 {
     static const char *const all[] = {"lcrvm.store", "log0", "seg1", "seg2", NULL}, *const last[] = {"seg2", NULL};
-    static const struct lcrvm_geometry two_logs = {2, 1, 1, 1, 64};
+    static const struct lcrvm_geometry two_logs = SIZED(2, 1, 1, 1, 64);
     struct lcrvm_store *store = made_as(folder, &one);
     char linked[BESIDE_BYTES], partly[BESIDE_BYTES], twice[BESIDE_BYTES], path[PATH_BYTES];
 
@@ -1021,28 +1181,28 @@ static void test_files_of_two_folders(const char *folder)
     close_well(made_as(partly, &one));
     CHECK(unlink(below(partly, "seg2")) == 0);
     link_files(folder, partly, last);
-    opens_not(linked, NULL, LCRVM_STORE_IN_USE, 0, "log0: store in use");
-    opens_not(linked, &one, LCRVM_STORE_IN_USE, 0, "log0: store in use");
-    opens_not(partly, NULL, LCRVM_STORE_IN_USE, 0, "seg2: store in use");
+    is_in_use(linked, NULL, "log0: ");
+    is_in_use(linked, &one, "log0: ");
+    is_in_use(partly, NULL, "seg2: ");
     ANSWERS(commit(store, 0, 1, 0, "kept"), LCRVM_OK);
     ANSWERS(lcrvm_flush(store, 0, NULL), LCRVM_OK);
     close_well(store);
     store = opened_as(linked, NULL);
     CHECK(holds(store, 0, 1, 0, "kept"));
-    opens_not(folder, NULL, LCRVM_STORE_IN_USE, 0, "log0: store in use");
+    is_in_use(folder, NULL, "log0: ");
     close_well(store);
     /* Nor is it two areas of one store. */
     beside(folder, "twice", twice);
     close_well(made_as(twice, &two_logs));
     snprintf(path, sizeof path, "%s/log1", twice);
     CHECK(unlink(path) == 0 && link(below(twice, "log0"), path) == 0);
-    opens_not(twice, NULL, LCRVM_STORE_IN_USE, 0, "log1: store in use");
+    is_in_use(twice, NULL, "log1: ");
 }
 
 /* A lock that is interrupted is taken all the same. */
 static void test_interrupted_locks(const char *folder)
 {
-    const struct lcrvm_options options = {.geometry = &one};
+    const struct lcrvm_options options = {.size = sizeof options, .geometry = &one};
     struct lcrvm_store *store;
 
     CHECK(mkdir(folder, 0777) == 0);
@@ -1052,7 +1212,7 @@ static void test_interrupted_locks(const char *folder)
     interrupted_locks = 2;
     store = opened_as(folder, NULL);
     CHECK(interrupted_locks == 0);
-    opens_not(folder, NULL, LCRVM_STORE_IN_USE, 0, "store in use");
+    is_in_use(folder, NULL, "");
     close_well(store);
 }
 
@@ -1073,7 +1233,8 @@ static void test_opening_syncs_the_folder(const char *folder)
     for (int sync = 1; sync <= SIZE_AND_FOLDER; sync++) {
         folder_syncs = 0;
         failing = made + sync;
-        opens_not(folder, NULL, LCRVM_DEVICE_FAULT, 0, sync == 1 ? "lcrvm.store: Input/output error" : strerror(EIO));
+        opens_not(folder, NULL, LCRVM_DEVICE_FAULT, 0,
+                  sync == 1 ? "lcrvm.store: Input/output error" : "folder: Input/output error");
         CHECK(folder_syncs == sync - 1 && made == failing);
         CHECK(read_bytes(below(folder, "log0"), now) == len && memcmp(log, now, len) == 0);
         CHECK(unlink(below(folder, "fault")) == 0);
@@ -1090,7 +1251,7 @@ static void test_marks_that_are_not_made(const char *folder)
 {
     static const char asked[] = "unmount the file system before the store is opened again";
     struct lcrvm_store *store = made_as(folder, &one);
-    struct lcrvm_fault fault;
+    struct lcrvm_fault fault = {.size = sizeof fault};
     char wanted[256];
 
     ANSWERS(commit(store, 0, 1, 0, "lost"), LCRVM_OK);
@@ -1153,7 +1314,7 @@ static void test_full_is_made_again(const char *folder)
 {
     static const uint32_t both[] = {2, 1};
     struct lcrvm_store *store = made_as(folder, &one);
-    struct lcrvm_commit commit;
+    struct lcrvm_record commit;
     uint64_t records = 0, rounds = 0;
 
     ANSWERS(lcrvm_leave(store, 0, 3), LCRVM_UNKNOWN);
@@ -1201,7 +1362,7 @@ static void test_full_where_another_has_ranges(const char *folder)
 {
     static const uint32_t second[] = {2};
     struct lcrvm_store *store = made_as(folder, &one);
-    struct lcrvm_commit placed;
+    struct lcrvm_record placed;
     char bytes[8];
     uint64_t rounds = 7;
 
@@ -1247,7 +1408,7 @@ static void test_full_where_another_has_ranges(const char *folder)
 /* Records on segment 1 stand in the log of node 1, and its token is at node 0. What is only read stays locked too. */
 static void test_full_where_the_truncation_is_refused(const char *folder)
 {
-    static const struct lcrvm_geometry size = {2, 2, 5, 1, 64};
+    static const struct lcrvm_geometry size = SIZED(2, 2, 5, 1, 64);
     static const uint32_t third[] = {3}, fifth[] = {5};
     struct lcrvm_store *store = made_as(folder, &size);
     uint64_t rounds = 7;
@@ -1410,7 +1571,7 @@ static void test_syncs_of_a_truncation(const char *folder)
 /* A truncation trims, so that the heap does not grow. */
 static void test_trimmed(const char *folder)
 {
-    static const struct lcrvm_geometry size = {1, 1, 1, 1, 4096};
+    static const struct lcrvm_geometry size = SIZED(1, 1, 1, 1, 4096);
     struct lcrvm_store *store = made_as(folder, &size);
     const void *end = NULL;
     uint64_t count = 7;
@@ -1432,7 +1593,7 @@ static void test_trimmed(const char *folder)
 /* So does that of one node of two, of what both have applied. */
 static void test_trimmed_of_two(const char *folder)
 {
-    static const struct lcrvm_geometry size = {2, 1, 1, 1, 512};
+    static const struct lcrvm_geometry size = SIZED(2, 1, 1, 1, 512);
     struct lcrvm_store *store = made_as(folder, &size);
     uint64_t count = 7;
 
@@ -1458,12 +1619,12 @@ static void test_trimmed_of_two(const char *folder)
 /* The greatest size: a record as long as a log can be, up to the last byte of the last segment. */
 static void test_greatest(const char *folder)
 {
-    static const struct lcrvm_geometry greatest = {8, 16, 16, 1024, 4096};
+    static const struct lcrvm_geometry greatest = SIZED(8, 16, 16, 1024, 4096);
     /* Past 16 KiB a range has 3 words. */
     static char bytes[8 * (4096 - 3 - 2 - 3)], found[sizeof bytes];
     const uint32_t at = 1024 * 256 - sizeof bytes, last = 16;
     struct lcrvm_store *store = made_as(folder, &greatest);
-    struct lcrvm_commit commit;
+    struct lcrvm_record commit;
     uint64_t records = 0, rounds = 0;
 
     memset(bytes, 'x', sizeof bytes);
@@ -1489,7 +1650,7 @@ static void test_misuse(const char *folder)
 {
     static const uint32_t first[] = {1};
     struct lcrvm_store *store = made_as(folder, &one), *other = store;
-    struct lcrvm_fault fault;
+    struct lcrvm_fault fault = {.size = sizeof fault};
     char bytes[1];
     uint32_t thread = 5;
 
@@ -1509,7 +1670,6 @@ static void test_misuse(const char *folder)
         ANSWERS(lcrvm_begin_transaction(none, 0, 0, NULL, 1, NULL, 0), LCRVM_MISUSE);
         ANSWERS(lcrvm_begin_transaction(none, 0, 0, NULL, 0, NULL, 1), LCRVM_MISUSE);
         ANSWERS(lcrvm_commit(none, 0, NULL, true, NULL), LCRVM_MISUSE);
-        ANSWERS(lcrvm_abort(none, 0, NULL), LCRVM_MISUSE);
         ANSWERS(lcrvm_put(none, 0, 0, 1, 0, NULL, 1), LCRVM_MISUSE);
         ANSWERS(lcrvm_write(none, 0, 0, 1, 0, NULL, 1), LCRVM_MISUSE);
         ANSWERS(lcrvm_read(none, 0, 0, 1, 0, NULL, 1), LCRVM_MISUSE);
@@ -1522,6 +1682,7 @@ static void test_misuse(const char *folder)
     ANSWERS(lcrvm_write(NULL, 0, 0, 1, 0, "x", 1), LCRVM_MISUSE);
     ANSWERS(lcrvm_read(NULL, 0, 0, 1, 0, bytes, 1), LCRVM_MISUSE);
     ANSWERS(lcrvm_commit(NULL, 0, &thread, true, NULL), LCRVM_MISUSE);
+    thread = 0;
     ANSWERS(lcrvm_abort(NULL, 0, &thread), LCRVM_MISUSE);
     ANSWERS(lcrvm_end_transaction(NULL, 0, 0, true, NULL), LCRVM_MISUSE);
     ANSWERS(lcrvm_abort_transaction(NULL, 0, 0), LCRVM_MISUSE);
@@ -1545,11 +1706,11 @@ static void test_threads_of_transactions(const char *folder)
 {
     static const uint32_t first[] = {1}, second[] = {2}, ninth[] = {9};
     struct lcrvm_store *store = made_as(folder, &one);
-    struct lcrvm_commit placed = {7, 7};
+    struct lcrvm_record placed = {7, 7};
     uint32_t one_thread = 7, other = 7, third = 7;
 
     ANSWERS(lcrvm_begin(store, 1, &one_thread, first, 1, NULL, 0, 0), LCRVM_UNKNOWN);
-    CHECK(one_thread == LCRVM_NO_THREAD);
+    CHECK(one_thread == LCRVM_NO_TRANSACTION);
     ANSWERS(lcrvm_begin(store, 0, &one_thread, ninth, 1, NULL, 0, 10000), LCRVM_UNKNOWN);
     ANSWERS(lcrvm_begin(store, 0, &one_thread, first, 1, NULL, 0, 0), LCRVM_OK);
     ANSWERS(lcrvm_begin(store, 0, &other, second, 1, NULL, 0, 0), LCRVM_OK);
@@ -1557,7 +1718,7 @@ static void test_threads_of_transactions(const char *folder)
     /* Both threads of the node are taken, by this thread itself. */
     alarm(60);
     ANSWERS(lcrvm_begin(store, 0, &third, NULL, 0, NULL, 0, UINT32_MAX), LCRVM_BUSY);
-    CHECK(third == LCRVM_NO_THREAD && lcrvm_fault_of(store)->segment == 0);
+    CHECK(third == LCRVM_NO_TRANSACTION && lcrvm_fault_of(store)->segment == 0);
     ANSWERS(lcrvm_put(store, 0, one_thread, 1, 0, "one", 3), LCRVM_OK);
     ANSWERS(lcrvm_put(store, 0, one_thread, 2, 0, "one", 3), LCRVM_NOT_LOCKED);
     ANSWERS(lcrvm_put(store, 0, one_thread, 1, 1022, "one", 3), LCRVM_OUT_OF_SEGMENT);
@@ -1568,17 +1729,16 @@ static void test_threads_of_transactions(const char *folder)
     ANSWERS(lcrvm_put(store, 0, UINT32_MAX, 1, 0, "one", 3), LCRVM_UNKNOWN);
     ANSWERS(lcrvm_put(store, 0, other, 2, 0, "two", 3), LCRVM_OK);
     ANSWERS(lcrvm_abort(store, 0, &other), LCRVM_OK);
-    CHECK(other == LCRVM_NO_THREAD);
+    CHECK(other == LCRVM_NO_TRANSACTION);
     ANSWERS(lcrvm_begin(store, 0, &other, NULL, 0, first, 1, UINT32_MAX), LCRVM_BUSY);
     CHECK(lcrvm_fault_of(store)->segment == 1);
     alarm(0);
-    ANSWERS(lcrvm_abort(store, 0, &other), LCRVM_UNKNOWN);
     ANSWERS(lcrvm_commit(store, 0, &other, true, NULL), LCRVM_UNKNOWN);
     other = 1;
     ANSWERS(lcrvm_commit(store, 0, &other, true, NULL), LCRVM_OUT_OF_TURN);
     CHECK(other == 1);
     ANSWERS(lcrvm_commit(store, 0, &one_thread, true, &placed), LCRVM_OK);
-    CHECK(one_thread == LCRVM_NO_THREAD && placed.place == 0 && placed.words == 8);
+    CHECK(one_thread == LCRVM_NO_TRANSACTION && placed.place == 0 && placed.words == 8);
     CHECK(holds(store, 0, 1, 0, "one") && holds(store, 0, 2, 0, "\0\0"));
     /* What is begun by the caller's own number nobody has: it is waited for. */
     ANSWERS(begin(store, 0, 0, 1), LCRVM_OK);
@@ -1591,7 +1751,7 @@ static void test_threads_of_transactions(const char *folder)
 /* What is too long stays open, by either way of ending it; a record that is longer than the log is full at once. */
 static void test_commits_that_are_refused(const char *folder)
 {
-    static const struct lcrvm_geometry size = {1, 2, 1, 1024, 4096};
+    static const struct lcrvm_geometry size = SIZED(1, 2, 1, 1024, 4096);
     static char bytes[40000];
     const uint32_t first[] = {1};
     struct lcrvm_store *store = made_as(folder, &size);
@@ -1718,10 +1878,10 @@ static void test_copy(const char *folder)
     ANSWERS(lcrvm_copy(store, folder), LCRVM_EXISTS);
     close_well(copy);
     ANSWERS(lcrvm_copy(store, ""), LCRVM_DEVICE_FAULT);
-    CHECK(strcmp(lcrvm_fault_of(store)->text, strerror(ENOENT)) == 0);
+    CHECK(strcmp(lcrvm_fault_of(store)->text, "the path is empty") == 0);
     ANSWERS(lcrvm_copy(store, below(folder, "none/below")), LCRVM_DEVICE_FAULT);
     ANSWERS(lcrvm_copy(store, below(folder, "log0")), LCRVM_DEVICE_FAULT);
-    CHECK(strcmp(lcrvm_fault_of(store)->text, strerror(ENOTDIR)) == 0);
+    CHECK(is_of(lcrvm_fault_of(store), "/log0", ENOTDIR));
     /* The store goes on. */
     ANSWERS(lcrvm_commit(store, 0, &thread, true, NULL), LCRVM_OK);
     CHECK(holds(store, 0, 2, 0, "open") && holds(store, 0, 1, 0, "lazy"));
@@ -1794,7 +1954,7 @@ static void test_renewed(const char *folder)
     CHECK(stat(below(folder, "seg2"), &link_at) == 0);
     store = opened_as(folder, NULL);
     CHECK(holds(store, 0, 1, 0, "kept"));
-    opens_not(folder, NULL, LCRVM_STORE_IN_USE, 0, "store in use");
+    is_in_use(folder, NULL, "");
     ANSWERS(commit(store, 0, 2, 0, "more"), LCRVM_OK);
     close_well(store);
     CHECK(stat(below(folder, "log0"), &after) == 0);
@@ -1853,7 +2013,7 @@ static void test_renewed_beside_others(const char *folder)
 static void test_not_renewed(const char *folder)
 {
     struct lcrvm_store *store = made_as(folder, &one);
-    const struct lcrvm_geometry longer = {1, 2, 2, 4, 65};
+    const struct lcrvm_geometry longer = SIZED(1, 2, 2, 4, 65);
     struct stat before, after;
 
     close_well(store);
@@ -1882,9 +2042,9 @@ static void leave_descriptors(int count)
 /* With too few descriptors nothing is made, opened or copied, and nothing is left of it. */
 static void test_few_descriptors(const char *folder)
 {
-    const struct lcrvm_options options = {.geometry = &one};
+    const struct lcrvm_options options = {.size = sizeof options, .geometry = &one};
     struct lcrvm_store *store = NULL;
-    struct lcrvm_fault fault;
+    struct lcrvm_fault fault = {.size = sizeof fault};
     enum lcrvm_status status = LCRVM_DEVICE_FAULT;
     char copy[BESIDE_BYTES];
     int before = descriptors(), count = 0;
@@ -1938,8 +2098,8 @@ static void test_children(const char *folder)
     if (child == 0)
         _exit(lcrvm_close(store, NULL) != LCRVM_FORKED);
     exits(child, 0);
-    opens_not(folder, NULL, LCRVM_STORE_IN_USE, 0, "store in use");
-    opens_not(partly, NULL, LCRVM_STORE_IN_USE, 0, "seg2: store in use");
+    is_in_use(folder, NULL, "");
+    is_in_use(partly, NULL, "seg2: ");
     /* A child as of vfork, which no handler is told of, has all descriptors. */
     CHECK(pipe(ends) == 0);
     child = (pid_t)syscall(SYS_clone, SIGCHLD, 0, 0, 0, 0);
@@ -1964,6 +2124,9 @@ static const struct {
     {"creation", test_creation},
     {"refused_creation", test_creation_is_refused},
     {"sizes", test_sizes},
+    {"structures", test_structures},
+    {"numbers_outside", test_numbers_outside},
+    {"opening_waits", test_opening_waits},
     {"openings", test_openings},
     {"missing_files", test_missing_files},
     {"another_size", test_another_size},
@@ -2036,7 +2199,7 @@ static void print_to_all(void)
 
 static int closed(const char *folder)
 {
-    const struct lcrvm_options options = {.geometry = &one};
+    const struct lcrvm_options options = {.size = sizeof options, .geometry = &one};
     const int before = closed_streams();
     struct lcrvm_store *store;
     char copy[BESIDE_BYTES];
@@ -2154,9 +2317,9 @@ static void work_on(struct lcrvm_store *store, const char *path)
 
 static int memory(const char *folder)
 {
-    static const struct lcrvm_geometry size = {2, 2, 3, 4, 256};
+    static const struct lcrvm_geometry size = SIZED(2, 2, 3, 4, 256);
     static char buffer[BUFSIZ];
-    const struct lcrvm_options options = {.geometry = &size};
+    const struct lcrvm_options options = {.size = sizeof options, .geometry = &size};
     char path[BESIDE_BYTES], copy[PATH_BYTES];
     struct lcrvm_store *store;
     long before;
@@ -2223,7 +2386,7 @@ static int copies(const char *folder, const char *number)
 static int renews(const char *folder, const char *number)
 {
     struct lcrvm_store *store;
-    struct lcrvm_fault fault;
+    struct lcrvm_fault fault = {.size = sizeof fault};
     enum lcrvm_status status;
     int before = descriptors();
 
@@ -2231,7 +2394,7 @@ static int renews(const char *folder, const char *number)
     failing = strtol(number, NULL, 10);
     status = lcrvm_open(folder, NULL, &store, &fault);
     if (made < failing) {
-        /* A write and a sync of each of three copies, a sync of the folder; and of the opening two, and three of areas. */
+        /* A write and a sync of each of three copies, a sync of the folder; of the opening two, and three of areas. */
         CHECK(made == 3 * 2 + 1 + 2 + 3);
         ANSWERS(status, LCRVM_OK);
         CHECK(holds(store, 0, 1, 0, "kept") && access(below(folder, "fault"), F_OK) != 0 && standing(folder) == 4);
@@ -2255,17 +2418,85 @@ static int makes(const char *folder)
     return wrong != 0;
 }
 
+enum { LEFT_COMMITS = 12, LEFT_PAGES = 8, PAGE_BYTES = 256 };
+
+/* The first page of both segments has the number, and each other one a byte of its own. */
+static int leaves(const char *folder)
+{
+    static const uint32_t both[] = {1, 2};
+    struct lcrvm_store *store = opened(folder);
+
+    if (store == NULL || commits_in(store, LEFT_COMMITS) != LCRVM_OK)
+        return 1;
+    ANSWERS(lcrvm_begin_transaction(store, 0, 0, both, 2, NULL, 0), LCRVM_OK);
+    for (uint32_t page = 1; page < LEFT_PAGES; page++)
+        for (uint32_t segment = 1; segment <= 2; segment++) {
+            const unsigned char byte = (unsigned char)(page + LEFT_PAGES * segment);
+
+            ANSWERS(lcrvm_put(store, 0, 0, segment, page * PAGE_BYTES + page, &byte, 1), LCRVM_OK);
+        }
+    ANSWERS(lcrvm_end_transaction(store, 0, 0, true, NULL), LCRVM_OK);
+    _exit(wrong != 0);
+}
+
+static bool has_all_pages(struct lcrvm_store *store)
+{
+    static const uint32_t both[] = {1, 2};
+    bool has = lcrvm_begin_transaction(store, 0, 0, NULL, 0, both, 2) == LCRVM_OK;
+
+    for (uint32_t page = 1; page < LEFT_PAGES; page++)
+        for (uint32_t segment = 1; segment <= 2; segment++) {
+            unsigned char byte = 0;
+
+            has = has && lcrvm_read(store, 0, 0, segment, page * PAGE_BYTES + page, &byte, 1) == LCRVM_OK &&
+                  byte == page + LEFT_PAGES * segment;
+        }
+    return lcrvm_abort_transaction(store, 0, 0) == LCRVM_OK && has;
+}
+
+static int recovers(const char *folder, const char *number)
+{
+    struct lcrvm_store *store;
+    struct lcrvm_fault fault = {.size = sizeof fault};
+    enum lcrvm_status status;
+    int before = descriptors();
+
+    failing = strtol(number, NULL, 10);
+    status = lcrvm_open(folder, NULL, &store, &fault);
+    if (made < failing) {
+        /* The size and the folder are synced, and three areas. Each of sixteen pages has two writes, its bytes and
+           its gate, and the pages of a segment share a sync for each. The log's gate is closed, and synced. */
+        CHECK(made == 2 + 3 + 2 * (LEFT_PAGES * 2 + 2) + 2);
+        ANSWERS(status, LCRVM_OK);
+        CHECK(number_in(store) == LEFT_COMMITS && has_all_pages(store));
+        failing = 0;
+        close_well(store);
+        return wrong != 0;
+    }
+    ANSWERS(status, LCRVM_DEVICE_FAULT);
+    CHECK(is_failure(&fault) && store == NULL && made == failing);
+    CHECK(access(below(folder, "fault"), F_OK) == 0 && descriptors() == before);
+    failing = 0;
+    store = opened(folder);
+    CHECK(store != NULL && number_in(store) == LEFT_COMMITS && has_all_pages(store));
+    close_well(store);
+    return wrong == 0 ? HAS_FAILED : 1;
+}
+
 static const struct {
     const char *name;
     int (*run)(const char *folder);
 } modes[] = {
-    {"commits", commits}, {"calls", calls}, {"shows", shows}, {"memory", memory}, {"closed", closed}, {"makes", makes},
+    {"commits", commits}, {"calls", calls}, {"shows", shows},   {"memory", memory},
+    {"closed", closed},   {"makes", makes}, {"leaves", leaves},
 };
 
 static const struct {
     const char *name;
     int (*run)(const char *folder, const char *number);
-} numbered[] = {{"faults", faults}, {"creates", creates}, {"copies", copies}, {"renews", renews}};
+} numbered[] = {
+    {"faults", faults}, {"creates", creates}, {"copies", copies}, {"renews", renews}, {"recovers", recovers},
+};
 
 int main(int count, char **arguments)
 {
@@ -2275,7 +2506,7 @@ int main(int count, char **arguments)
     for (size_t i = 0; count == 4 && i < sizeof numbered / sizeof numbered[0]; i++)
         if (strcmp(arguments[1], numbered[i].name) == 0)
             return numbered[i].run(arguments[2], arguments[3]);
-    fprintf(stderr, "usage: embedded_test commits|calls|shows|memory|closed|makes FOLDER,\n"
-                    "       embedded_test faults|creates|copies|renews FOLDER N\n");
+    fprintf(stderr, "usage: embedded_test commits|calls|shows|memory|closed|makes|leaves FOLDER,\n"
+                    "       embedded_test faults|creates|copies|renews|recovers FOLDER N\n");
     return 2;
 }

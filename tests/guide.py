@@ -8,8 +8,8 @@ usage: tests/guide.py WORK PREFIX PYTHON [DOCUMENT..]
     PYTHON    a Python that has the package; `-` for none, and then Python blocks are named as skipped
     DOCUMENT  by itself README.md and docs/GUIDE.md
 
-The blocks of a document run in its order, in one folder that has examples/, docs/store.svg and the built program where
-the gate leaves it. What a block is its tag says:
+The blocks of a document run in its order, in one folder that has examples/ and docs/store.svg. What a block is its tag
+says:
 
     console   A session. Lines with `$ ` are commands, and lines with `> ` right after one go on with it; the others are what
               it prints, on standard output and standard error. A command whose status is not 0 stands in front of
@@ -46,11 +46,10 @@ SECONDS = 60
 ELSEWHERE = {
     "(cd crates/lcrvm && rt try -- run < ../../examples/hello.script)": "by hand: it takes a minute and wants the kit",
     "bash .ci/run": "the gate itself",
-    "make prove": "nothing here: the gate proves the same crates",
-    "make": "tests/install.sh",
     "sudo make install": "tests/install.sh, without root",
-    "make python": "tests/python_package.sh",
-    "python3 -m venv env && env/bin/pip install build/wheel/*.whl": "tests/install.sh, from the archive",
+    "pip install ./*.whl": "tests/install.sh, from the archive",
+    "make prove": "nothing here: the gate proves the same crates",
+    "make dist": "tests/install.sh",
     "mkdir -p crates/count/src": "by hand",
     "cp examples/rattle/count/main.rt.txt crates/count/src/main.rt": "by hand",
     "echo 'count: lc_disk lc_core lc_files lc_store' >> crates.txt": "by hand",
@@ -274,21 +273,17 @@ class Blocks:
 
     def folder(self, document):
         folder = self.work / document.replace("/", "_")
-        (folder / "crates/lcrvm/out").mkdir(parents=True)
-        (folder / "docs").mkdir()
+        (folder / "docs").mkdir(parents=True)
         shutil.copytree(TOP / "examples", folder / "examples", ignore=shutil.ignore_patterns("__pycache__"))
         shutil.copy(TOP / "docs/store.svg", folder / "docs")
-        shutil.copy(self.prefix / "bin/lcrvm", folder / "crates/lcrvm/out")
         return folder
 
-    def environment(self, document):
-        """In the README the program is put on the path by the reader."""
-        own = {} if document == "README.md" else {"PATH": f"{self.prefix}/bin:{os.environ['PATH']}"}
+    def environment(self):
         return {**os.environ, "LD_LIBRARY_PATH": f"{self.prefix}/lib", "PKG_CONFIG_PATH": f"{self.prefix}/lib/pkgconfig",
-                "PYTHONDONTWRITEBYTECODE": "1", "LC_ALL": "C", **own}
+                "PYTHONDONTWRITEBYTECODE": "1", "LC_ALL": "C", "PATH": f"{self.prefix}/bin:{os.environ['PATH']}"}
 
     def run(self, document, text):
-        folder, environment = self.folder(document), self.environment(document)
+        folder, environment = self.folder(document), self.environment()
         try:
             blocks = list(blocks_of(text))
         except Failure as failure:

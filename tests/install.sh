@@ -41,11 +41,14 @@ is_there() {
 }
 
 mkdir "$work/top" "$work/proved"
-(cd "$top" && cp -r Makefile packaging clients include man completion LICENSE-* "$work/top")
+(cd "$top" && cp -r Makefile packaging clients include man completion LICENSE-* CHANGELOG.md "$work/top")
+mkdir "$work/top/docs"
+cp "$top/docs/GUIDE.md" "$work/top/docs"
 rm -f "$work"/top/clients/python/lcrvm/*.so "$work"/top/clients/python/lcrvm/*.so.*
 [ ! -e "$top/.git" ] || export GIT_DIR="$(cd "$top" && git rev-parse --absolute-git-dir)"
 cd "$work/top"
 version=$(sed -n 's/^__version__ = "\(.*\)"$/\1/p' clients/python/lcrvm/__init__.py)
+attempt 'the version of the header' grep -q "^#define LCRVM_VERSION \"$version\"" include/lcrvm.h
 # The linker's cache of this system stays as it is: how often it would be renewed is counted.
 printf '#!/bin/sh\necho renewed >> %s\n' "$work/renewed" > "$work/ldconfig"
 chmod +x "$work/ldconfig"
@@ -68,7 +71,7 @@ cc -E -P -x c include/lcrvm.h | tr '\n' ' ' | grep -o 'lcrvm_[a-z_]* *(' | tr -d
 for compiler in gcc clang; do
     is_there $compiler "building by $compiler" || continue
     attempt "make, by $compiler" build CC=$compiler CFLAGS='-O2 -Werror'
-    nm -D --defined-only build/liblcrvm.so.0 | awk '{print $NF}' | sort > "$work/shown"
+    nm -D --defined-only build/liblcrvm.so.0 | awk '$2 != "A" { sub(/@@.*/, "", $NF); print $NF }' | sort > "$work/shown"
     same "the names of the shared library, by $compiler" "$work/declared" "$work/shown"
     nm -g --defined-only build/liblcrvm.a | awk 'NF == 3 {print $3}' | sort > "$work/shown"
     same "the names of the archive, by $compiler" "$work/declared" "$work/shown"
@@ -76,12 +79,18 @@ for compiler in gcc clang; do
     for word in 'soname: \[liblcrvm.so.0\]' BIND_NOW GNU_RELRO 'GNU_STACK .* RW '; do
         attempt "$word, by $compiler" grep -q "$word" "$work/elf"
     done
+    readelf -VW build/liblcrvm.so.0 > "$work/elf"
+    attempt "the version of the names, by $compiler" grep -q 'Name: LCRVM_0$' "$work/elf"
     touch "$work/marker"
     build CC=$compiler CFLAGS='-O2 -Werror'
     find build -newer "$work/marker" -type f > "$work/anew"
     same "what is built twice, by $compiler" /dev/null "$work/anew"
 done
 build CC=cc
+nm -D --undefined-only build/liblcrvm.so.0 > "$work/elf"
+for word in __stack_chk_fail '__[a-z]*_chk'; do
+    attempt "$word, which the library calls by default" grep -q " $word@" "$work/elf"
+done
 for changed in clients/c/lcrvm.map include/lcrvm.h; do
     touch "$changed" "$work/marker"
     build CC=cc
@@ -95,6 +104,7 @@ done
 cat > "$work/wanted" <<END
 ./usr/bin/lcrvm
 ./usr/include/lcrvm.h
+./usr/include/lcrvm.hpp
 ./usr/lib/liblcrvm.a
 ./usr/lib/liblcrvm.so
 ./usr/lib/liblcrvm.so.0
@@ -106,6 +116,8 @@ cat > "$work/wanted" <<END
 ./usr/share/man/man1/lcrvm.1
 ./usr/share/man/man3/lcrvm.3
 END
+sed 's|.*|./usr/share/man/man3/&.3|' "$work/declared" >> "$work/wanted"
+LC_ALL=C sort -o "$work/wanted" "$work/wanted"
 files_of() {
     (cd "$1" && find . ! -type d | sort)
 }
@@ -114,6 +126,14 @@ attempt 'make install, to a DESTDIR' build install PREFIX=/usr DESTDIR="$work/ro
 files_of "$work/root" > "$work/found"
 same 'the files of an installation' "$work/wanted" "$work/found"
 attempt 'make install, once more' build install PREFIX=/usr DESTDIR="$work/root"
+attempt 'make install-strip' build install-strip PREFIX=/usr DESTDIR="$work/root"
+for file in bin/lcrvm lib/liblcrvm.so.0; do
+    nm "$work/root/usr/$file" > "$work/symbols" 2>&1 || true
+    attempt "no symbols in $file" grep -q 'no symbols' "$work/symbols"
+done
+attempt 'the symbols of the archive for C' sh -c "nm '$work/root/usr/lib/liblcrvm.a' | grep -q lcrvm_open"
+attempt 'the stripped program' test "$("$work/root/usr/bin/lcrvm" --version)" = "lcrvm $version"
+attempt 'lcrvm_begin(3)' test "$(readlink "$work/root/usr/share/man/man3/lcrvm_begin.3")" = lcrvm.3
 attempt 'the paths of lcrvm.pc' grep -q '^libdir=/usr/lib$' "$work/root/usr/lib/pkgconfig/lcrvm.pc"
 touch "$work/root/usr/lib/liblcrvm.so.0.0.9"
 attempt 'make uninstall' build uninstall PREFIX=/usr DESTDIR="$work/root"
@@ -258,7 +278,8 @@ fi
 if [ -f $archive ]; then
     cp $archive "$work/first.tar.gz"
     build clean
-    attempt 'make dist, once more' build dist
+    attempt 'make dist, once more, by another umask' sh -c 'umask 077 && "$@"' build_dist make -s PROGRAM="$program" \
+        STORE="$library" HEAP="$heap" PROVED="$work/proved" dist
     attempt 'two archives of the same files' cmp "$work/first.tar.gz" $archive
     mkdir "$work/unpacked"
     tar -xzf $archive -C "$work/unpacked"

@@ -25,7 +25,7 @@ import sys
 from typing import Dict, Iterator, List, Set, Tuple
 
 TOP = pathlib.Path(__file__).resolve().parent.parent
-INNER = ("lc_lock", "lc_segments", "lc_log_side", "lc_ended", "lc_node", "lc_cluster")
+INNER = ("lc_lock", "lc_segments", "lc_log_side", "lc_node", "lc_cluster")
 
 # Whose code may name an inner crate, beside that crate.
 MAY_NAME = {

@@ -1,6 +1,7 @@
 """Cuts the power of the built program anywhere, and looks that what was acknowledged is there.
 
 usage: python3 tests/power.py PROGRAM SHIM [--cuts N] [--seed SEED] [--jobs N] [--stories plain|failing] [--without-syncs KIND]
+                               [--opening OPENING]
 
 SHIM is tests/traced_calls.c, built. A story is a new store, and random scripts that run on it one after another, with
 recoveries between; SHIM writes down each call and each printed line, in order. A cut takes the calls up to some place. A byte
@@ -17,6 +18,9 @@ With --without-syncs the syncs of a kind do not count, or `all` of them, and a c
 one does. The kind is told by what was written to the file last: of a log, a `group`, its `gate`, or the zero of a `reset`; of a
 segment, the zero that has to `close` a slot, what has to `fill` it, or the gate that has to `open` it. Or it is the `first` of a
 process on the file, by which what an earlier process has written becomes stable.
+
+With --opening a recovery is an opening by the library: OPENING is tests/opening_test.c, built, which opens the folder and ends
+without a close. Then --without-syncs leaves out the syncs of openings alone.
 """
 import argparse
 import multiprocessing
@@ -525,16 +529,19 @@ def run(program, shim, folder, words, lines=None, trace=None, failing=None):
         if failing is not None:
             environment.update(CALLS_KIND=failing[0], CALLS_FAILED=str(failing[1]), CALLS_ERROR="5", CALLS_HALF="1")
     text = "".join(line + "\n" for line in lines or []).encode()
-    done = subprocess.run([program, *words, *SIZE], input=text, capture_output=True, env=environment, timeout=WAIT, check=False)
+    done = subprocess.run([program, *words], input=text, capture_output=True, env=environment, timeout=WAIT, check=False)
     return done.returncode, done.stdout.decode()
 
 
 def recover(program, shim, folder, trace=None):
-    return run(program, shim, folder, ["recover", folder], trace=trace)
+    opening = os.environ.get("POWER_OPENING")
+    if opening:
+        return run(opening, shim, folder, [folder], trace=trace)
+    return run(program, shim, folder, ["recover", folder, *SIZE], trace=trace)
 
 
 def run_script(program, shim, folder, lines, trace=None, failing=None):
-    return run(program, shim, folder, ["run", "--store", folder], lines, trace, failing)
+    return run(program, shim, folder, ["run", "--store", folder, *SIZE], lines, trace, failing)
 
 
 def pages_of(folder):
@@ -579,7 +586,8 @@ def recovered(program, shim, folder, history, trace=None):
     if status != 0:
         raise Lost(f"recover ended with status {status}: {printed.strip()}")
     content, numbers = pages_of(folder)
-    said = "".join(f"segment {s} sequence {numbers[s]}\n" for s in numbers) + "recovered\n"
+    said = "" if os.environ.get("POWER_OPENING") else "".join(f"segment {s} sequence {numbers[s]}\n" for s in numbers)
+    said += "recovered\n"
     if printed != said:
         raise Lost(f"recover printed {printed!r}, and the pages say {said!r}")
     return history.kept(content, numbers)
@@ -618,10 +626,12 @@ class Player:
         self.kept = process.kept
         self.lines = None if process.lines is None else list(process.lines)
         self.text = b""
+        # Of a run no sync is left out where the openings are looked at.
+        self.left_out = None if self.lines is not None and os.environ.get("POWER_OPENING") else self.without
 
     def do(self, call):
         if call[0] != "print":
-            self.disk.do(call, self.without)
+            self.disk.do(call, self.left_out)
             return
         self.text += call[1]
         while b"\n" in self.text:
@@ -668,7 +678,7 @@ def tell(program, shim, work, seed, failing):
     folder = f"{work}/told/store"
     os.makedirs(folder)
     trace = f"{work}/trace"
-    status, _ = run(program, shim, folder, ["init", folder], trace=trace)
+    status, _ = run(program, shim, folder, ["init", folder, *SIZE], trace=trace)
     if status != 0:
         raise Lost(f"init ended with status {status}")
     disk = Disk(folder, {})
@@ -800,7 +810,10 @@ def main():
     parser.add_argument("--jobs", type=int, default=2)
     parser.add_argument("--stories", choices=["plain", "failing"], default="plain")
     parser.add_argument("--without-syncs", choices=["all"] + SYNCS)
+    parser.add_argument("--opening")
     asked = parser.parse_args()
+    if asked.opening:
+        os.environ["POWER_OPENING"] = asked.opening
     each = 100
     tasks = [
         (asked.program, asked.shim, asked.seed * 10000 + k, asked.stories == "failing", each, asked.without_syncs)

@@ -7,6 +7,7 @@ from __future__ import annotations
 
 import contextlib
 import ctypes
+import errno
 import gc
 import multiprocessing
 import os
@@ -24,6 +25,7 @@ import threading
 import time
 import unittest
 import warnings
+import weakref
 from typing import Any, Callable, Dict, Iterator, List, Optional, Tuple, Type
 
 import lcrvm
@@ -212,6 +214,88 @@ class Calls(Case):
             self.assertEqual(t[1, 0:3], b"two")
         with self.raises(lcrvm.Unclean, segment=1, sequence=1):
             store.truncate(1)
+
+    def test_stats(self) -> None:
+        store = self.opened(lcrvm.Geometry(segments=2, pages=4, words=256))
+        zeros = lcrvm.Stats(open=0, log_words=0, commits=0, flushes=0, flushed=0, truncations=0, waits=0, longest_wait=0)
+        self.assertEqual(store.stats(), zeros)
+        for _ in range(3):
+            with store.transaction(1, durable=False) as t:
+                add(t)
+        # A record of one range of 8 bytes has 8 words.
+        self.assertEqual(store.stats(), zeros._replace(log_words=24, commits=3))
+        with store.transaction(1) as t:
+            add(t)
+            self.assertEqual(store.stats(0).open, 1)
+        self.assertEqual(store.stats(), zeros._replace(log_words=32, commits=4, flushes=1, flushed=4))
+        store.truncate()
+        self.assertEqual(store.stats(), zeros._replace(commits=4, flushes=1, flushed=4, truncations=1))
+        with store.transaction(2):
+            thread = threading.Thread(target=lambda: store.transaction(2, timeout=60).begin().abort())
+            thread.start()
+            time.sleep(0.3)
+        thread.join()
+        stats = store.stats()
+        self.assertEqual((stats.open, stats.waits), (0, 1))
+        self.assertTrue(0.05 < stats.longest_wait < 30, stats)
+        with self.raises(lcrvm.Unknown, text="node 1: the store has 0 to 0"):
+            store.stats(1)
+
+    @unittest.skipIf(sys.version_info < (3, 9), "types by a spec have weak references from Python 3.9 on")
+    def test_weak_references(self) -> None:
+        store = self.opened()
+        t = store.transaction(1)
+        weak = [weakref.ref(store), weakref.ref(t)]
+        self.assertEqual([weak[0](), weak[1]()], [store, t])
+        del t
+        gc.collect()
+        self.assertIsNone(weak[1]())
+        self.assertIs(weak[0](), store)
+
+    def test_what_only_reads_waits_for_no_device(self) -> None:
+        store = self.opened()
+        with store.transaction(1, durable=False) as t:
+            add(t)
+        with store.transaction(reading=[1]) as t:
+            self.assertEqual(int(NUMBER.unpack(t[1, 0:8])[0]), 1)
+        self.assertEqual(store.stats().flushes, 0)
+        with store.transaction(reading=[1], durable=True):
+            pass
+        self.assertEqual(store.stats().flushes, 1)
+
+    def test_faults_of_the_system_are_those_of_python(self) -> None:
+        with self.assertRaises(OSError) as raised:
+            lcrvm.create(os.path.join(self.folder, "below"), SMALL)
+        error = raised.exception
+        self.assertIsInstance(error, lcrvm.DeviceFault)
+        self.assertEqual((error.errno, error.strerror), (errno.ENOENT, os.strerror(errno.ENOENT)))
+        self.assertTrue(str(error.filename).endswith("store/below"), error.filename)
+        self.assertTrue(str(error).startswith(str(error.filename)), str(error))
+        self.assertEqual(str(pickle.loads(pickle.dumps(error))), str(error))
+        with self.assertRaises(FileNotFoundError) as missing:
+            lcrvm.open(self.folder, geometry=SMALL)
+        self.assertEqual(missing.exception.errno, errno.ENOENT)
+
+    def test_an_opening_waits(self) -> None:
+        self.opened().close()
+        process = self.python("""if True:
+            store = lcrvm.open(sys.argv[1])
+            print("open", flush=True)
+            sys.stdin.readline()
+            time.sleep(0.2)
+            store.close()
+            """)
+        assert process.stdin is not None and process.stdout is not None
+        self.assertEqual(process.stdout.readline(), "open\n")
+        begun = time.monotonic()
+        with self.assertRaises(lcrvm.StoreInUse):
+            lcrvm.open(self.folder, wait=0.1)
+        self.assertGreaterEqual(time.monotonic() - begun, 0.1)
+        process.stdin.write("\n")
+        process.stdin.flush()
+        begun = time.monotonic()
+        lcrvm.open(self.folder, wait=60).close()
+        self.assertTrue(0.1 < time.monotonic() - begun < 30, "an opening has not waited")
 
     def test_a_copy_has_what_is_committed(self) -> None:
         store = self.opened()
@@ -853,7 +937,7 @@ class Threads(Case):
         self.assertIn("another thread is within a call of this transaction", said)
 
     def test_close_waits_for_others(self) -> None:
-        store = self.opened(timeout=0.1)
+        store = self.opened(timeout=1)
         ready, done = threading.Event(), threading.Event()
 
         def work() -> None:
@@ -1318,7 +1402,8 @@ class Processes(Case):
             first = int(process.stdout.readline())
             time.sleep(chance.uniform(0, 0.05))
             process.kill()
-            said = [int(line) for line in process.communicate()[0].split("\n")[:-1]]
+            # (not by communicate, which passes over what readline has read ahead)
+            said = [int(line) for line in process.stdout.read().split("\n")[:-1]]
             acknowledged = max([before, first, *said])
             before = self.number()
             self.assertIn(before, range(acknowledged, acknowledged + 4), kill)

@@ -40,7 +40,7 @@ ROWS = [
     ("a clause of a public trait", "lc_disk/src/area.rt", r"^        ensures clean .*\n", ""),
     ("the invariant of what C's arrays hold", "lc_changes/specs/Changes.antt", r"^  pub kept_inside : .*\n", ""),
     ("a law", "lc_stage/src/laws.rt", r"× \(q ≡ r\)|\(q ≡ r\) × ", ""),
-    ("when a log may be reset", "lc_trunc/specs/Reset.antt", r"^AreKnown .*\n(?:    .*\n)*", "AreKnown words known = Unit {0}\n"),
+    ("when a log may be reset", "lc_token/specs/Reset.antt", r"^AreKnown .*\n(?:    .*\n)*", "AreKnown words known = Unit {0}\n"),
 ]
 
 

@@ -38,6 +38,11 @@
 #include <time.h>
 #include <unistd.h>
 
+/* A size, by its numbers. */
+#define SIZED(of_nodes, of_threads, of_segments, of_pages, of_words)                                                   \
+    {.size = sizeof(struct lcrvm_geometry), .nodes = of_nodes, .threads = of_threads, .segments = of_segments,         \
+     .pages = of_pages, .words = of_words}
+
 enum {
     THREADS = 16,
     SEGMENTS = 4,
@@ -50,8 +55,8 @@ enum {
     A_MINUTE = 60000
 };
 
-static const struct lcrvm_geometry tight = {1, 16, SEGMENTS, 2, 256}, wide = {1, 16, SEGMENTS, 2, 4096};
-static const struct lcrvm_geometry tighter = {1, 16, SEGMENTS, 2, 128};
+static const struct lcrvm_geometry tight = SIZED(1, 16, SEGMENTS, 2, 256), wide = SIZED(1, 16, SEGMENTS, 2, 4096);
+static const struct lcrvm_geometry tighter = SIZED(1, 16, SEGMENTS, 2, 128);
 static atomic_int wrong;
 
 #define ANSWERS(call, wanted) answers((call), (wanted), #call, __LINE__)
@@ -218,7 +223,7 @@ static const char *path_below(const char *folder, const char *name, char path[PA
 static struct lcrvm_store *opened(const char *path)
 {
     struct lcrvm_store *store;
-    struct lcrvm_fault fault;
+    struct lcrvm_fault fault = {.size = sizeof fault};
 
     if (lcrvm_open(path, NULL, &store, &fault) != LCRVM_OK) {
         fprintf(stderr, "%s is not opened: %s %s\n", path, lcrvm_status_text(fault.status), fault.text);
@@ -229,8 +234,8 @@ static struct lcrvm_store *opened(const char *path)
 
 static struct lcrvm_store *made(const char *path, const struct lcrvm_geometry *geometry)
 {
-    const struct lcrvm_options options = {.geometry = geometry};
-    struct lcrvm_fault fault;
+    const struct lcrvm_options options = {.size = sizeof options, .geometry = geometry};
+    struct lcrvm_fault fault = {.size = sizeof fault};
 
     if (lcrvm_create(path, &options, &fault) != LCRVM_OK) {
         fprintf(stderr, "%s is not made: %s %s\n", path, lcrvm_status_text(fault.status), fault.text);
@@ -501,7 +506,7 @@ static void *press(void *argument)
 /* The first accounts have as many as there were commits. */
 static int crowd(const char *folder, int count)
 {
-    static const struct lcrvm_geometry least = {1, 16, SEGMENTS, 2, 64};
+    static const struct lcrvm_geometry least = SIZED(1, 16, SEGMENTS, 2, 64);
     static struct worker workers[CROWD];
     struct lcrvm_store *store = made_below(folder, "crowd", &least);
     int64_t numbers[THREADS], sum = 0;
@@ -839,7 +844,7 @@ static int ends(const char *folder, int count)
     struct lcrvm_store *store = made_below(folder, "ends", &wide), *other;
     struct beginner holder = {.store = store, .writing = 1, .milliseconds = 0};
     struct beginner waiter = {.store = store, .writing = 2, .milliseconds = UINT32_MAX, .may_end = true};
-    struct lcrvm_fault fault;
+    struct lcrvm_fault fault = {.size = sizeof fault};
     uint32_t thread;
     pthread_t asked;
     char path[PATH_BYTES];
@@ -882,7 +887,7 @@ static int faults(const char *folder, int count)
         static struct worker none[THREADS];
         struct worker workers[THREADS];
         struct lcrvm_store *store;
-        struct lcrvm_fault fault;
+        struct lcrvm_fault fault = {.size = sizeof fault};
         int64_t numbers[THREADS];
         char name[32], path[PATH_BYTES];
 
@@ -940,7 +945,7 @@ static int descriptors_below(const char *folder)
 static void call_in_child(struct lcrvm_store *store, const char *folder)
 {
     const uint32_t first[] = {1};
-    struct lcrvm_fault fault;
+    struct lcrvm_fault fault = {.size = sizeof fault};
     struct lcrvm_delivered delivered;
     char byte[1];
     uint32_t thread = 0;
@@ -974,7 +979,7 @@ static void call_in_child(struct lcrvm_store *store, const char *folder)
 static void open_in_child(const char *path, const char *other)
 {
     struct lcrvm_store *store;
-    struct lcrvm_fault fault;
+    struct lcrvm_fault fault = {.size = sizeof fault};
 
     ANSWERS(lcrvm_open(path, NULL, &store, &fault), LCRVM_STORE_IN_USE);
     ANSWERS(lcrvm_open(other, NULL, &store, &fault), LCRVM_OK);

@@ -43,6 +43,15 @@ static const char *path_of(int file)
     return file >= 0 && file < MOST ? paths[file] : NULL;
 }
 
+/* The path of a name beside an open folder, in this room where it is made. */
+static const char *whole_path(int folder, const char *path, char room[5000])
+{
+    if (path == NULL || path[0] == '/' || path_of(folder) == NULL)
+        return path;
+    snprintf(room, 5000, "%s/%s", path_of(folder), path);
+    return room;
+}
+
 static void put(const char *name, const char *text, const void *bytes, size_t len, int flags)
 {
     const char *path = getenv(name);
@@ -98,15 +107,16 @@ static void hold(void)
 
 static int opened(int folder, const char *path, int flags, mode_t mode)
 {
-    char line[5000];
-    if (is_below(path) && fails("open", path))
+    char line[6000], room[5000];
+    const char *whole = whole_path(folder, path, room);
+    if (is_below(whole) && fails("open", whole))
         return -1;
     int file = syscall(SYS_openat, folder, path, flags, mode);
     if (file >= 0 && file < MOST) {
         free(paths[file]);
-        paths[file] = is_below(path) ? strdup(path) : NULL;
+        paths[file] = is_below(whole) ? strdup(whole) : NULL;
         if (paths[file] != NULL) {
-            snprintf(line, sizeof line, "open %d %d %s\n", file, flags, path);
+            snprintf(line, sizeof line, "open %d %d %s\n", file, flags, whole);
             trace(line, NULL, 0);
         }
     }

@@ -1,5 +1,5 @@
 #!/bin/sh
-# Builds and runs the wrappers over the library as it is installed: examples/lcrvm.hpp with examples/bank.cpp, and the
+# Builds and runs the wrappers over the library as it is installed: lcrvm.hpp with examples/bank.cpp, and the
 # crate examples/rust with its bank. A bank has eight threads on one store, and an exception or a panic gives some
 # transfers up. Its sums have to be right, also after the store is opened again. What a bank does not come to is tried
 # by small programs: a store that is moved from, closed, or left while a transaction is open, and what errors say.
@@ -75,8 +75,8 @@ static void put(const lcrvm::store &store, int64_t number, bool durable = true) 
 
 int main(int, char **words) {
     std::string folder = words[1], beside = folder + ".copy";
-    refuses("no store", LCRVM_NO_STORE, "missing", [&] { lcrvm::store store(folder + "/none"); });
-    lcrvm_geometry size{1, 2, 2, 2, 256};
+    refuses("no store", LCRVM_NO_STORE, "/none: No such file", [&] { lcrvm::store store(folder + "/none"); });
+    lcrvm_geometry size{sizeof size, 1, 2, 2, 2, 256};
     lcrvm::store::create(folder, &size);
     refuses("a store that is there", LCRVM_EXISTS, "lcrvm.store", [&] { lcrvm::store::create(folder, &size); });
 
@@ -116,6 +116,28 @@ int main(int, char **words) {
     moved.close();
     refuses("a store that is closed", LCRVM_MISUSE, "", [&] { moved.flush(); });
 
+    // A transaction that is moved from is none; one that is moved to, or assigned over, ends where it goes.
+    store.emplace(folder);
+    {
+        const uint32_t both[] = {1, 2};
+        lcrvm::transaction one(*store, both, 1, both + 1, 1);
+        one.put(1, 0, int64_t{20});
+        lcrvm::transaction other(std::move(one));
+        refuses("a transaction that was moved from", LCRVM_MISUSE, "", [&] { one.commit(); });
+        lcrvm::transaction third(*store, {}, {2});
+        swap(other, third);
+        third.commit();
+        other = std::move(third);
+        refuses("a transaction that is over", LCRVM_UNKNOWN, "", [&] { other.commit(); });
+        lcrvm::transaction again(*store, both, 2, nullptr, 0);
+        again.put(1, 0, int64_t{21});
+        again.abort();
+        again.abort();
+    }
+    holds("what was moved", shown(*store), 20);
+    put(*store, 10, false);
+    store.reset();
+
     // A transaction keeps its store open; and one that is open when its store is closed is aborted then.
     store.emplace(folder);
     holds("a lazy commit, after close", shown(*store), 10);
@@ -141,7 +163,7 @@ if is_there g++ 'the wrapper for C++'; then
     for compiler in g++ clang++; do
         is_there $compiler "the wrapper for C++ by $compiler" || continue
         for source in examples/bank "$work/edges"; do
-            attempt "$source, by $compiler" $compiler -std=c++17 -Wall -Wextra -Werror -O2 -pthread -Iexamples \
+            attempt "$source, by $compiler" $compiler -std=c++17 -Wall -Wextra -Wpedantic -Wshadow -Werror -O2 -pthread \
                 -I"$work/prefix/include" "$source.cpp" -L"$lib" -llcrvm -o "$work/$(basename $source)"
         done
         rm -rf "$work/accounts" "$work/store" "$work/store.copy"
@@ -235,8 +257,8 @@ fi
 for folder in accounts accounts_by_rust store store_by_rust; do
     [ ! -d "$work/$folder" ] || attempt "$folder, by the program" "$program" check "$work/$folder"
 done
-for wrapper in lcrvm.hpp rust/src/lib.rs; do
-    attempt "$wrapper has more than 80 lines" test "$(wc -l < "examples/$wrapper")" -le 80
+for wrapper in include/lcrvm.hpp examples/rust/src/lib.rs; do
+    attempt "$wrapper has more than 110 lines" test "$(wc -l < "$wrapper")" -le 110
 done
 
 ends_counted
