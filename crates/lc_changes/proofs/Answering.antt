@@ -183,3 +183,28 @@ unset-write g t set segment offset bytes are lock =
       (λ e. let both = is.0 (sym row ∙ e) in (leb-true (offset + length bytes) (segment_len g) both.0, none.0 both.1)),
       (λ both. row ∙ is.1 (le-leb (offset + length bytes) (segment_len g) both.0, none.1 both.1)),
     )
+
+-- What is refused for no reason that images give is not refused
+
+set-none : (a b c : Bool) → (of_set a b c ≡ Some EmptyRange → ⊥) → (of_set a b c ≡ Some (OutOfSegment None) → ⊥) → (of_set a b c ≡ Some TooManyRanges → ⊥) → of_set a b c ≡ None
+set-none true b c empty outside many = absurd (empty refl)
+set-none false false c empty outside many = absurd (outside refl)
+set-none false true false empty outside many = absurd (many refl)
+set-none false true true empty outside many = refl
+
+write-none : (b c : Bool) → (of_write b c ≡ Some (OutOfSegment None) → ⊥) → (of_write b c ≡ Some NoRange → ⊥) → of_write b c ≡ None
+write-none false c outside unset = absurd (outside refl)
+write-none true false outside unset = absurd (unset refl)
+write-none true true outside unset = refl
+
+pub open-range : (g : Geometry) (t : Transaction) (segment offset len : ℕ) → locks t segment ≡ true → (set_range_refusal g t segment offset len ≡ Some EmptyRange → ⊥)
+    → (set_range_refusal g t segment offset len ≡ Some (OutOfSegment None) → ⊥) → (set_range_refusal g t segment offset len ≡ Some TooManyRanges → ⊥) → set_range_refusal g t segment offset len ≡ None
+open-range g t segment offset len lock empty outside many =
+    let row = set-row g t segment offset len lock in
+    row ∙ set-none (len == 0) (nat_le (offset + len) (segment_len g)) (nat_le (ranges (marked t segment offset len).marks) 64) (λ e. empty (row ∙ e)) (λ e. outside (row ∙ e)) (λ e. many (row ∙ e))
+
+pub open-write : (g : Geometry) (t : Transaction) (segment offset : ℕ) (bytes : List ℕ) → locks t segment ≡ true → (write_refusal g t segment offset bytes ≡ Some (OutOfSegment None) → ⊥)
+    → (write_refusal g t segment offset bytes ≡ Some NoRange → ⊥) → write_refusal g t segment offset bytes ≡ None
+open-write g t segment offset bytes lock outside unset =
+    let row = write-row g t segment offset bytes lock in
+    row ∙ write-none (nat_le (offset + length bytes) (segment_len g)) (all_set offset (length bytes) (segment_of segment t.marks)) (λ e. outside (row ∙ e)) (λ e. unset (row ∙ e))

@@ -2,6 +2,7 @@ mod Accepting
 mod Alone
 mod Answering
 mod Blocks
+mod Drafting
 mod Ending
 mod GatheredBytes
 mod HandedOver

@@ -1,7 +1,9 @@
 pub mod Calls
 pub mod Changes
 pub mod ChangesView
+pub mod Draft
 pub mod Gathering
 pub mod Held
 pub mod Images
+pub mod Replies
 pub mod Setting

@@ -3,11 +3,14 @@
 
 mod calls;
 mod changes;
+mod draft;
 mod gathering;
 mod laws;
+mod replies;
 
 pub use calls::{
     alike_over_stops, calls_are_a_run, changes_answer_as_rows, ends_are_their_work, two_take_turns,
 };
 pub use changes::Changes;
+pub use draft::Draft;
 pub use laws::{gathered_in_order, held_alone, private_images, puts_give_images};
