@@ -18,7 +18,6 @@
 #include "../../include/lcrvm.h"
 #include "clean_close.h"
 #include "descriptors.h"
-#include "emptying.h"
 #include "logs.h"
 #include "new_files.h"
 #include "recovery.h"
@@ -30,6 +29,7 @@
 #include "structures.h"
 #include "transactions.h"
 #include "waiting.h"
+#include "working.h"
 
 #include <errno.h>
 #include <fcntl.h>
@@ -271,18 +271,37 @@ static enum lcrvm_status open_in(struct lcrvm_store *store, const char *path, co
     status = load_renewed(store);
     if (status == LCRVM_OK && !take_record(store))
         status = sync_folder(store);
-    return status == LCRVM_OK ? recover(store) : status;
+    if (status == LCRVM_OK)
+        status = recover(store);
+    return status == LCRVM_OK ? make_images(store) : status;
+}
+
+/* Initialises the lock of events. Where the system has it, who waits for it spins first. */
+static void init_events(pthread_mutex_t *events)
+{
+    pthread_mutexattr_t attributes;
+
+    pthread_mutexattr_init(&attributes);
+#ifdef PTHREAD_ADAPTIVE_MUTEX_INITIALIZER_NP
+    pthread_mutexattr_settype(&attributes, PTHREAD_MUTEX_ADAPTIVE_NP);
+#endif
+    pthread_mutex_init(events, &attributes);
+    pthread_mutexattr_destroy(&attributes);
 }
 
 static struct lcrvm_store *new_store(void)
 {
-    struct lcrvm_store *store = follows_forks ? calloc(1, sizeof *store) : NULL;
+    struct lcrvm_store *store = follows_forks ? aligned_alloc(CACHE_LINE, sizeof *store) : NULL;
 
     if (store == NULL)
         return NULL;
+    memset(store, 0, sizeof *store);
     store->forks = forks;
-    pthread_mutex_init(&store->events, NULL);
+    init_events(&store->events);
     pthread_cond_init(&store->idle, NULL);
+    for (uint32_t node = 0; node < MOST_NODES; node++)
+        for (uint32_t thread = 0; thread < MOST_THREADS; thread++)
+            pthread_mutex_init(&store->begun[node][thread].guard, NULL);
     keep_descriptors(&store->kept);
     return store;
 }
@@ -291,6 +310,7 @@ static struct lcrvm_store *new_store(void)
 static void free_memory(struct lcrvm_store *store)
 {
     lcrvm_session_free(store->session);
+    free_images(store);
     free(store->bytes);
     free(store);
 }
@@ -300,6 +320,9 @@ static void free_store(struct lcrvm_store *store)
     release_descriptors(&store->kept);
     pthread_cond_destroy(&store->idle);
     pthread_mutex_destroy(&store->events);
+    for (uint32_t node = 0; node < MOST_NODES; node++)
+        for (uint32_t thread = 0; thread < MOST_THREADS; thread++)
+            pthread_mutex_destroy(&store->begun[node][thread].guard);
     free_memory(store);
 }
 
@@ -425,131 +448,124 @@ static enum lcrvm_status named_of(const struct lcrvm_store *store, enum lcrvm_st
     return named(store, status, wish->node, transaction, segment);
 }
 
-/* ---- events, by a thread that has the lock. A slice of nothing has an address all the same. */
+/* ---- the way into an open transaction and out of it */
 
-static enum lcrvm_status set_range_now(struct lcrvm_store *store, uint32_t node, uint32_t thread, uint32_t segment,
-                                       uint32_t offset, uint32_t length)
+/* Whether a call of an open transaction may begin: *begun has its guard then, and is given back by `worked`. It is NULL
+   where the thread has none: then the call has entered the store, to be refused there, and goes out by `done`. Else it
+   answers `not_entered`. */
+static bool enter_work(struct lcrvm_store *store, uint32_t node, uint32_t transaction, struct begun **begun)
+{
+    enum lcrvm_status status = look_at_store(store);
+
+    *begun = NULL;
+    if (status == LCRVM_OK && store->over)
+        status = is_over(store);
+    if (status != LCRVM_OK) {
+        told(status);
+        return false;
+    }
+    *begun = take_guard(store, node, transaction);
+    return *begun != NULL || enter(store);
+}
+
+/* What a call answers that has entered so. */
+static enum lcrvm_status worked(struct lcrvm_store *store, struct begun *begun, enum lcrvm_status status)
+{
+    if (begun == NULL)
+        return done(store, status);
+    give_guard(begun);
+    return told(status);
+}
+
+/* A thread that has no open transaction is asked for work in one: what the session answers to that, or what it would
+   have answered before another call began one. */
+static enum lcrvm_status refuse_work(struct lcrvm_store *store, uint32_t node, uint32_t thread, uint32_t segment)
 {
     struct answer answer = {0};
-    enum lcrvm_status status = restore(store, node, thread);
 
-    if (status != LCRVM_OK)
-        return status;
-    lcrvm_session_set_range(&store->session, bounded(node), bounded(thread), segment, offset, length, &answer);
+    if (node < store->geometry.nodes && thread < store->geometry.threads && store->begun[node][thread].open)
+        return failed(LCRVM_OUT_OF_TURN, "");
+    lcrvm_session_set_range(&store->session, bounded(node), bounded(thread), segment, 0, 0, &answer);
     return answered(store, &answer);
 }
 
-static enum lcrvm_status write_now(struct lcrvm_store *store, uint32_t node, uint32_t thread, uint32_t segment,
-                                   uint32_t offset, const void *bytes, uint32_t length)
-{
-    struct answer answer = {0};
-    enum lcrvm_status status = length > 0 ? restore(store, node, thread) : LCRVM_OK;
-
-    if (status != LCRVM_OK || length == 0)
-        return status;
-    lcrvm_session_write(&store->session, bounded(node), bounded(thread), segment, offset, bytes, length, &answer);
-    return answered(store, &answer);
-}
-
-static enum lcrvm_status put_now(struct lcrvm_store *store, uint32_t node, uint32_t thread, uint32_t segment,
-                                 uint32_t offset, const void *bytes, uint32_t length)
-{
-    enum lcrvm_status status = length > 0 ? set_range_now(store, node, thread, segment, offset, length) : LCRVM_OK;
-
-    return status == LCRVM_OK ? write_now(store, node, thread, segment, offset, bytes, length) : status;
-}
-
-static enum lcrvm_status read_now(struct lcrvm_store *store, uint32_t node, uint32_t thread, uint32_t segment,
-                                  uint32_t offset, void *bytes, uint32_t length)
-{
-    uint8_t none = 0;
-    struct answer answer = {0};
-    enum lcrvm_status status = restore(store, node, thread);
-
-    if (status != LCRVM_OK)
-        return status;
-    lcrvm_session_read(&store->session, bounded(node), bounded(thread), segment, offset, length > 0 ? bytes : &none,
-                       length, &answer);
-    return answered(store, &answer);
-}
+/* ---- events, by a thread that has the lock and the transaction's guard */
 
 /* The transaction is over, and who waits for what it locked goes on. */
-static void over_now(struct lcrvm_store *store, uint32_t node, uint32_t thread)
+static void over_now(struct lcrvm_store *store, struct begun *begun)
 {
-    struct begun *begun = &store->begun[node][thread];
-
     begun->open = false;
     store->owned -= begun->owner != NOBODY;
     serve_waiters(store);
 }
 
-static enum lcrvm_status abort_now(struct lcrvm_store *store, uint32_t node, uint32_t thread)
+static enum lcrvm_status abort_now(struct lcrvm_store *store, uint32_t node, uint32_t thread, struct begun *begun)
 {
     struct answer answer = {0};
     enum lcrvm_status status;
 
     lcrvm_session_abort(&store->session, bounded(node), bounded(thread), &answer);
     status = answered(store, &answer);
-    if (status == LCRVM_OK)
-        over_now(store, node, thread);
+    if (status == LCRVM_OK && begun != NULL)
+        over_now(store, begun);
     return status;
 }
 
 /* Gives the transaction its place in the log, and completes its record. */
-static enum lcrvm_status commit_now(struct lcrvm_store *store, uint32_t node, uint32_t thread,
+static enum lcrvm_status commit_now(struct lcrvm_store *store, uint32_t node, uint32_t thread, struct begun *begun,
                                     struct lcrvm_record *placed)
 {
     struct answer answer = {0};
-    enum lcrvm_status status = restore(store, node, thread);
+    enum lcrvm_status status = end_in_session(store, node, thread, begun, &answer);
 
     *placed = (struct lcrvm_record){0, 0};
     if (status != LCRVM_OK)
         return status;
-    lcrvm_session_reserve(&store->session, bounded(node), bounded(thread), &answer);
-    status = answered(store, &answer);
-    if (status == LCRVM_OK && answer.reply == RESERVED) {
+    if (answer.reply == RESERVED) {
         *placed = (struct lcrvm_record){.place = answer.place, .words = answer.words};
         store->counted[node].log_words = placed->place + placed->words;
-        lcrvm_session_close_record(&store->session, bounded(node), bounded(thread), &answer);
-        status = answered(store, &answer);
-        store->records[node] += status == LCRVM_OK;
+        store->records[node]++;
     }
-    if (status == LCRVM_OK)
-        over_now(store, node, thread);
-    return status;
+    over_now(store, begun);
+    return LCRVM_OK;
 }
 
 /* Commits by a thread that is at the files, and empties the log where it is still full. */
 static enum lcrvm_status commit_at_files(struct lcrvm_store *store, uint32_t node, uint32_t thread,
-                                         struct lcrvm_record *placed)
+                                         struct begun *begun, struct lcrvm_record *placed)
 {
-    enum lcrvm_status status = commit_now(store, node, thread, placed);
+    enum lcrvm_status status = commit_now(store, node, thread, begun, placed);
     struct lcrvm_fault full;
 
     if (status != LCRVM_FULL)
         return status;
     full = fault_here;
-    status = empty_log(store, node);
+    status = truncate_now(store, node);
     if (status == LCRVM_OK)
-        return commit_now(store, node, thread, placed);
-    if (store->over || status == LCRVM_NO_MEMORY)
+        return commit_now(store, node, thread, begun, placed);
+    if (store->over)
         return status;
     fault_here = full;
     return LCRVM_FULL;
 }
 
-/* Commits, and empties the log first where it is full and has room for the record then. */
+/* Commits, and empties the log first where it is full and has room for the record then. Without an open transaction
+   it is refused. */
 static enum lcrvm_status commit_with_room(struct lcrvm_store *store, uint32_t node, uint32_t thread,
-                                          struct lcrvm_record *placed)
+                                          struct begun *begun, struct lcrvm_record *placed)
 {
-    enum lcrvm_status status = commit_now(store, node, thread, placed);
+    enum lcrvm_status status;
+
+    if (begun == NULL)
+        return refuse_work(store, node, thread, 1);
+    status = commit_now(store, node, thread, begun, placed);
 
     if (status != LCRVM_FULL || fault_here.need > store->geometry.words)
         return status;
     status = take_files(store);
     if (status != LCRVM_OK)
         return status;
-    status = commit_at_files(store, node, thread, placed);
+    status = commit_at_files(store, node, thread, begun, placed);
     give_files(store);
     return status;
 }
@@ -561,7 +577,7 @@ static void abort_all(struct lcrvm_store *store)
     for (uint32_t node = 0; node < store->geometry.nodes; node++)
         for (uint32_t thread = 0; thread < store->geometry.threads; thread++)
             if (store->begun[node][thread].open && !store->over)
-                abort_now(store, node, thread);
+                abort_now(store, node, thread, &store->begun[node][thread]);
 }
 
 /* Flushes each log, and empties it where that can be: not where the token of a segment has gone to another node. */
@@ -574,7 +590,7 @@ static void empty_all(struct lcrvm_store *store)
 /* In a child: what another thread of the parent was changing is left as it was, and is not freed. */
 static void forget_store(struct lcrvm_store *store)
 {
-    if (atomic_load(&store->within) == 0)
+    if (atomic_load(&store->within) == 0 && !is_guard_held(store))
         free_memory(store);
 }
 
@@ -592,7 +608,8 @@ enum lcrvm_status lcrvm_close(struct lcrvm_store *store, struct lcrvm_fault *fau
         return told_to(status, fault);
     }
     pthread_mutex_lock(&store->events);
-    if (atomic_load(&store->within) > 0 || (!store->over && has_begun(store, this_thread(), true))) {
+    if (atomic_load(&store->within) > 0 || is_guard_held(store) ||
+        (!store->over && has_begun(store, this_thread(), true))) {
         pthread_mutex_unlock(&store->events);
         return told_to(failed(LCRVM_BUSY, ""), fault);
     }
@@ -701,58 +718,75 @@ enum lcrvm_status lcrvm_begin_transaction(struct lcrvm_store *store, uint32_t no
 enum lcrvm_status lcrvm_set_range(struct lcrvm_store *store, uint32_t node, uint32_t transaction, uint32_t segment,
                                   uint32_t offset, uint32_t length)
 {
+    struct begun *begun;
     enum lcrvm_status status;
 
-    if (!enter(store))
+    if (!enter_work(store, node, transaction, &begun))
         return not_entered();
-    status = set_range_now(store, node, transaction, segment, offset, length);
-    return done(store, named(store, status, node, transaction, segment));
+    status = begun != NULL ? set_range_in(store, begun, segment, offset, length)
+                           : refuse_work(store, node, transaction, segment);
+    return worked(store, begun, named(store, status, node, transaction, segment));
 }
 
 enum lcrvm_status lcrvm_write(struct lcrvm_store *store, uint32_t node, uint32_t transaction, uint32_t segment,
                               uint32_t offset, const void *bytes, uint32_t length)
 {
+    struct begun *begun;
     enum lcrvm_status status;
 
     if (!are_there(bytes, length))
         return misused("bytes: NULL");
-    if (!enter(store))
+    if (!enter_work(store, node, transaction, &begun))
         return not_entered();
-    status = write_now(store, node, transaction, segment, offset, bytes, length);
-    return done(store, named(store, status, node, transaction, segment));
+    status = begun != NULL ? write_in(store, begun, segment, offset, bytes, length)
+                           : refuse_work(store, node, transaction, segment);
+    return worked(store, begun, named(store, status, node, transaction, segment));
 }
 
 enum lcrvm_status lcrvm_put(struct lcrvm_store *store, uint32_t node, uint32_t transaction, uint32_t segment,
                             uint32_t offset, const void *bytes, uint32_t length)
 {
+    struct begun *begun;
     enum lcrvm_status status;
 
     if (!are_there(bytes, length))
         return misused("bytes: NULL");
-    if (!enter(store))
+    if (!enter_work(store, node, transaction, &begun))
         return not_entered();
-    status = put_now(store, node, transaction, segment, offset, bytes, length);
-    return done(store, named(store, status, node, transaction, segment));
+    status = begun != NULL ? put_in(store, begun, segment, offset, bytes, length)
+                           : refuse_work(store, node, transaction, segment);
+    return worked(store, begun, named(store, status, node, transaction, segment));
 }
 
 enum lcrvm_status lcrvm_read(struct lcrvm_store *store, uint32_t node, uint32_t transaction, uint32_t segment,
                              uint32_t offset, void *bytes, uint32_t length)
 {
+    struct begun *begun;
     enum lcrvm_status status;
 
     if (!are_there(bytes, length))
         return misused("bytes: NULL");
-    if (!enter(store))
+    if (!enter_work(store, node, transaction, &begun))
         return not_entered();
-    status = read_now(store, node, transaction, segment, offset, bytes, length);
-    return done(store, named(store, status, node, transaction, segment));
+    status = begun != NULL ? read_in(store, begun, segment, offset, bytes, length)
+                           : refuse_work(store, node, transaction, segment);
+    return worked(store, begun, named(store, status, node, transaction, segment));
 }
 
 enum lcrvm_status lcrvm_abort_transaction(struct lcrvm_store *store, uint32_t node, uint32_t thread)
 {
-    if (!enter(store))
-        return not_entered();
-    return done(store, named(store, abort_now(store, node, thread), node, thread, 1));
+    enum lcrvm_status status = look_at_store(store);
+    struct begun *begun;
+
+    if (status != LCRVM_OK)
+        return told(status);
+    begun = take_guard(store, node, thread);
+    if (begun != NULL && !store->over)
+        restore_images(store, begun);
+    status = enter(store) ? done(store, named(store, abort_now(store, node, thread, begun), node, thread, 1))
+                          : not_entered();
+    give_guard(begun);
+    return status;
 }
 
 enum lcrvm_status lcrvm_abort(struct lcrvm_store *store, uint32_t node, uint32_t *transaction)
@@ -767,19 +801,22 @@ enum lcrvm_status lcrvm_abort(struct lcrvm_store *store, uint32_t node, uint32_t
     return status;
 }
 
-/* Makes stable what a transaction committed, and all that it may have read: whatever its node has committed by
+/* The guard is given back before the flush: the thread's number may be that of another transaction by then.
+
+   Makes stable what a transaction committed, and all that it may have read: whatever its node has committed by
    now. What others commit comes after it in the log, and a commit of another node is read only once it is stable. */
 static enum lcrvm_status flush_after(struct lcrvm_store *store, uint32_t node, bool flush)
 {
     return flush && !store->over ? flush_shared(store, node) : LCRVM_OK;
 }
 
-static enum lcrvm_status commit_and_flush(struct lcrvm_store *store, uint32_t node, uint32_t *transaction, bool flush,
-                                          struct lcrvm_record *record)
+static enum lcrvm_status commit_and_flush(struct lcrvm_store *store, uint32_t node, uint32_t *transaction,
+                                          struct begun *begun, bool flush, struct lcrvm_record *record)
 {
     struct lcrvm_record placed;
-    enum lcrvm_status status = commit_with_room(store, node, *transaction, &placed);
+    enum lcrvm_status status = commit_with_room(store, node, *transaction, begun, &placed);
 
+    give_guard(begun);
     if (status == LCRVM_OK) {
         *transaction = LCRVM_NO_TRANSACTION;
         status = flush_after(store, node, flush);
@@ -792,28 +829,36 @@ static enum lcrvm_status commit_and_flush(struct lcrvm_store *store, uint32_t no
 enum lcrvm_status lcrvm_commit(struct lcrvm_store *store, uint32_t node, uint32_t *transaction, bool flush,
                                struct lcrvm_record *record)
 {
+    struct begun *begun;
     enum lcrvm_status status;
 
     if (transaction == NULL)
         return misused("transaction: NULL");
+    status = look_at_store(store);
+    if (status != LCRVM_OK)
+        return told(status);
+    begun = take_guard(store, node, *transaction);
     if (enter(store)) {
-        status = commit_and_flush(store, node, transaction, flush, record);
+        status = commit_and_flush(store, node, transaction, begun, flush, record);
         status = done(store, named(store, status, node, *transaction, 1));
-    } else
+    } else {
+        give_guard(begun);
         status = not_entered();
+    }
     if (status == LCRVM_DEVICE_FAULT)
         *transaction = LCRVM_NO_TRANSACTION;
     return status;
 }
 
 /* Commits, and flushes whatever became of the commit, which is answered first. */
-static enum lcrvm_status end_and_flush(struct lcrvm_store *store, uint32_t node, uint32_t thread, bool flush,
-                                       struct lcrvm_record *record)
+static enum lcrvm_status end_and_flush(struct lcrvm_store *store, uint32_t node, uint32_t thread, struct begun *begun,
+                                       bool flush, struct lcrvm_record *record)
 {
     struct lcrvm_record placed;
-    enum lcrvm_status ended = commit_with_room(store, node, thread, &placed), flushed;
+    enum lcrvm_status ended = commit_with_room(store, node, thread, begun, &placed), flushed;
     const struct lcrvm_fault why = fault_here;
 
+    give_guard(begun);
     flushed = flush_after(store, node, flush);
     if (store->over)
         return is_over(store);
@@ -828,9 +873,16 @@ static enum lcrvm_status end_and_flush(struct lcrvm_store *store, uint32_t node,
 enum lcrvm_status lcrvm_end_transaction(struct lcrvm_store *store, uint32_t node, uint32_t thread, bool flush,
                                         struct lcrvm_record *record)
 {
-    if (!enter(store))
-        return not_entered();
-    return done(store, named(store, end_and_flush(store, node, thread, flush, record), node, thread, 1));
+    enum lcrvm_status status = look_at_store(store);
+    struct begun *begun;
+
+    if (status != LCRVM_OK)
+        return told(status);
+    begun = take_guard(store, node, thread);
+    if (enter(store))
+        return done(store, named(store, end_and_flush(store, node, thread, begun, flush, record), node, thread, 1));
+    give_guard(begun);
+    return not_entered();
 }
 
 enum lcrvm_status lcrvm_flush(struct lcrvm_store *store, uint32_t node, uint64_t *records)

@@ -56,18 +56,12 @@ uint32_t lcrvm_session_begin_free(struct handle *handle, uint16_t node, const ui
                                   struct answer *answer);
 uint32_t lcrvm_session_set_range(struct handle *handle, uint16_t node, uint16_t thread, uint32_t segment,
                                  uint32_t offset, uint32_t len, struct answer *answer);
-uint32_t lcrvm_session_write(struct handle *handle, uint16_t node, uint16_t thread, uint32_t segment, uint32_t offset,
-                             const uint8_t *bytes, size_t len, struct answer *answer);
 uint32_t lcrvm_session_read(struct handle *handle, uint16_t node, uint16_t thread, uint32_t segment, uint32_t offset,
                             uint8_t *buffer, size_t len, struct answer *answer);
 uint32_t lcrvm_session_abort(struct handle *handle, uint16_t node, uint16_t thread, struct answer *answer);
 uint32_t lcrvm_session_reserve(struct handle *handle, uint16_t node, uint16_t thread, struct answer *answer);
-uint32_t lcrvm_session_close_record(struct handle *handle, uint16_t node, uint16_t thread, struct answer *answer);
 uint32_t lcrvm_session_flush_step(struct handle *handle, uint16_t node, struct answer *answer);
 uint32_t lcrvm_session_truncate_step(struct handle *handle, uint16_t node, struct answer *answer);
-uint32_t lcrvm_session_set_aside(struct handle *handle, uint16_t node, struct answer *answer);
-uint32_t lcrvm_session_bring_back(struct handle *handle, struct answer *answer);
-uint32_t lcrvm_session_restore(struct handle *handle, uint16_t node, uint16_t thread, struct answer *answer);
 uint32_t lcrvm_session_leave(struct handle *handle, uint16_t node, uint32_t segment, struct answer *answer);
 uint32_t lcrvm_session_arrive(struct handle *handle, uint16_t node, uint32_t segment, struct answer *answer);
 uint32_t lcrvm_session_deliver(struct handle *handle, uint16_t sender, uint64_t number, uint32_t segment, uint16_t to,
@@ -78,5 +72,25 @@ uint32_t lcrvm_recovery_round(uint16_t nodes, uint32_t segments, uint64_t steps,
 bool lcrvm_session_bytes(struct handle *handle, uint32_t place, size_t at, uint8_t *buffer, size_t len);
 void lcrvm_session_give_up(struct handle *handle);
 void lcrvm_session_free(struct handle handle);
+
+/* The draft of an open transaction: what it has locked, and what it has set of images, an array a segment. */
+uint32_t lcrvm_draft_new(uint32_t image_len, struct handle *draft);
+uint32_t lcrvm_draft_set_range(struct handle *draft, uint32_t segment, const uint8_t *image, size_t image_len,
+                               uint32_t offset, uint32_t len, struct answer *answer);
+uint32_t lcrvm_draft_write(struct handle *draft, uint32_t segment, uint8_t *image, size_t image_len, uint32_t offset,
+                           const uint8_t *bytes, size_t len, struct answer *answer);
+uint32_t lcrvm_draft_read(struct handle *draft, uint32_t segment, const uint8_t *image, size_t image_len,
+                          uint32_t offset, uint8_t *buffer, size_t len, struct answer *answer);
+void lcrvm_draft_restore(struct handle *draft, uint32_t segment, uint8_t *image, size_t image_len);
+uint32_t lcrvm_draft_next(struct handle *draft);
+void lcrvm_draft_free(struct handle draft);
+
+uint32_t lcrvm_session_lock_draft(struct handle *handle, uint16_t node, uint16_t thread, struct handle *draft);
+uint32_t lcrvm_session_hand_over(struct handle *handle, uint16_t node, uint16_t thread, struct handle *draft,
+                                 const uint8_t *image, size_t image_len, struct answer *answer);
+uint32_t lcrvm_session_end(struct handle *handle, uint16_t node, uint16_t thread, struct handle *draft,
+                           struct answer *answer);
+uint32_t lcrvm_session_begin_again(struct handle *handle, uint16_t node, uint16_t thread, struct handle *draft,
+                                   struct answer *answer);
 
 #endif

@@ -22,7 +22,7 @@ struct lcrvm_store {
     struct lcrvm_geometry geometry, stated; /* by the folder; of no nodes where it states none */
     struct timespec names;                  /* when those in the folder changed last, as the opening found it */
     unsigned forks;                         /* as many as had led to this process when it opened the store */
-    bool over;                              /* a file has failed: each call answers why */
+    atomic_bool over;                       /* a file has failed: each call answers why */
     struct lcrvm_fault why;
 
     atomic_uint within;     /* so many calls are on their way, of whatever thread */
@@ -43,6 +43,8 @@ struct lcrvm_store {
     uint64_t calls[MOST_AREAS]; /* of each area, those that its file has had */
     bool stable[MOST_AREAS];    /* of each file, whether all that was written to it is */
     uint8_t *bytes;             /* room for what one call writes */
+    uint8_t *images; /* of each segment, what its writer sees, or else what is committed: the guard of who has it locked,
+                        and the lock of events where it is locked and given back */
 };
 
 /* Each call of a store that is over answers why it is. */

@@ -3,6 +3,10 @@
 #define LCRVM_TRANSACTIONS_H
 
 #include "../../include/lcrvm.h"
+#include "session.h"
+
+#include <pthread.h>
+#include <stdatomic.h>
 
 enum {
     MOST_NODES = 8,
@@ -13,16 +17,19 @@ enum {
     MOST_WORDS = 4096,
     MOST_AREAS = MOST_NODES + MOST_SEGMENTS,
     WORD_BYTES = 8,
+    PAGE_BYTES = 256,
     PAGE_AREA_BYTES = 544, /* a page in its file, which has two slots for it */
+    CACHE_LINE = 64,
     NOBODY = 0 /* whose transactions those of lcrvm_begin_transaction are */
 };
 
-/* A transaction that is open: what it locked, a bit a segment. Who waits for it is told by these. */
+/* The transaction of a thread of a node. Its work on the images of segments is done under the guard alone. */
 struct begun {
-    bool open;
-    bool aside; /* its log was emptied since: the session may keep what its ranges held */
-    uint32_t writing, reading;
-    uint64_t owner; /* the number of the thread that began it */
+    _Alignas(CACHE_LINE) pthread_mutex_t guard; /* held within each call of the transaction */
+    struct handle draft;                        /* what it has locked, and what it has set of the images */
+    atomic_bool open;                           /* set last where it begins; it ends under the guard */
+    uint32_t writing, reading; /* what it locked, a bit a segment: who waits for it is told by these */
+    uint64_t owner;            /* the number of the thread that began it */
 };
 
 /* ---- sizes */
@@ -81,6 +88,12 @@ static const struct lcrvm_geometry *size_of(const struct lcrvm_options *options)
 static uint32_t areas_of(const struct lcrvm_geometry *geometry)
 {
     return geometry->nodes + geometry->segments;
+}
+
+/* How long the image of a segment is. */
+static size_t image_len_of(const struct lcrvm_geometry *geometry)
+{
+    return (size_t)geometry->pages * PAGE_BYTES;
 }
 
 /* How long the area at a place is, and its file. */

@@ -40,15 +40,23 @@ static uint64_t this_thread(void)
     return number;
 }
 
-static void note_begin(struct lcrvm_store *store, uint32_t thread, const struct wish *wish)
+/* Begins the draft of a transaction that the session has begun. It has room for as many locks as a store has
+   segments. */
+static enum lcrvm_status begin_draft(struct lcrvm_store *store, uint32_t thread, const struct wish *wish)
 {
-    store->begun[wish->node][thread] = (struct begun){
-        .open = true,
-        .writing = wish->writes,
-        .reading = wish->reads & ~wish->writes,
-        .owner = wish->owner,
-    };
+    struct begun *begun = &store->begun[wish->node][thread];
+    struct answer answer = {0};
+
+    if (lcrvm_session_lock_draft(&store->session, bounded(wish->node), bounded(thread), &begun->draft) != LCRVM_OK) {
+        lcrvm_session_abort(&store->session, bounded(wish->node), bounded(thread), &answer);
+        return failed(LCRVM_NO_MEMORY, "");
+    }
+    begun->writing = wish->writes;
+    begun->reading = wish->reads & ~wish->writes;
+    begun->owner = wish->owner;
+    atomic_store_explicit(&begun->open, true, memory_order_release);
     store->owned += wish->owner != NOBODY;
+    return LCRVM_OK;
 }
 
 /* The segments of a wish, of which a slice of nothing has an address all the same. */
@@ -68,9 +76,7 @@ static enum lcrvm_status begin_now(struct lcrvm_store *store, uint32_t thread, c
     lcrvm_session_begin(&store->session, bounded(wish->node), bounded(thread), listed(wish->segments, wish->count),
                         wish->count, listed(wish->reading, wish->reading_count), wish->reading_count, &answer);
     status = answered(store, &answer);
-    if (status == LCRVM_OK)
-        note_begin(store, thread, wish);
-    return status;
+    return status == LCRVM_OK ? begin_draft(store, thread, wish) : status;
 }
 
 static enum lcrvm_status busy_at(uint32_t segments)
@@ -97,9 +103,8 @@ static enum lcrvm_status begin_free(struct lcrvm_store *store, const struct wish
         return busy_at(0);
     if (status != LCRVM_OK)
         return status;
-    note_begin(store, free, wish);
     *thread = free;
-    return LCRVM_OK;
+    return begin_draft(store, free, wish);
 }
 
 /* The same, unless it would take what these, which are in front of it, wait for. */

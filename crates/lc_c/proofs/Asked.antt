@@ -48,7 +48,7 @@ module _ (old new : Handle) (same : new ≡ old) where
       steps = subst (λ b. StepsIf b old.value event (Ok reply) new.value) (sym some) (
         subst (λ (s : Session). StepsStage old.value.stage event (Ok reply) s.stage) (sym (ap (λ (h : Handle). h.value) same))
             (subst (λ (s : Session). StepsStage s.stage event (Ok reply) s.stage) is steps),
-        record { kept = ap (λ (h : Handle). h.value.kept) same; truncation = ap (λ (h : Handle). h.value.truncation) same },
+        record { truncation = ap (λ (h : Handle). h.value.truncation) same },
       );
       filled = filled;
       answers = answers;

@@ -5,7 +5,5 @@ mod Stages
 mod Asked
 mod Mirroring
 mod Begins
-mod Removing
-mod GivenBack
-mod Rows
-mod Holding
+mod AsDraftBox
+mod HeldDraft

@@ -2,7 +2,6 @@
 use Rattle.std.specs.Prelude.{◌≡◌}
 use Rattle.lc_c.specs.declared.session.Session.{Session}
 
--- the same is kept of transactions, and the same truncation is under way
+-- the same truncation is under way
 pub record IsSameBeside (old new : Session) : Type 0 where
-  pub kept : new.kept ≡ old.kept
   pub truncation : new.truncation ≡ old.truncation

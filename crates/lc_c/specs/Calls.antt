@@ -9,11 +9,9 @@ use Rattle.lc_model.specs.declared.reply.Reply.TheVariants.{Bytes, Refused, Ok a
 use Rattle.lc_record.specs.Geometry.{HasNumbers}
 use Rattle.lc_record.specs.declared.geometry.Geometry.{Geometry}
 use Rattle.lc_model.specs.declared.refusal.Refusal.{Refusal}
-use Rattle.lc_c.specs.Aborts.{Aborts}
 use Rattle.lc_c.specs.Answer.{answer_of}
 use Rattle.lc_c.specs.BeginsFree.{BeginsFree}
 use Rattle.lc_c.specs.Beside.{IsSameBeside}
-use Rattle.lc_c.specs.SuspendedTransactions.{IsNone}
 use Rattle.lc_c.specs.LastCall.{call_of}
 use Rattle.lc_c.specs.Mirrors.{window_in}
 use Rattle.lc_c.specs.SessionState.{AreaAt, IsAdded, StartsStage, StepsStage, gathered, geometry_of, is_gathering}
@@ -43,17 +41,6 @@ BeginsIf false node writing reading old thread reply new = (thread ≡ 0) × (re
 pub record BeginsBy (old : Handle) (node : ℕ) (writing reading : List ℕ) (thread : ℕ) (answer : Answer) (new : Handle) : Type 0 where
   pub reply : Reply
   pub begins : BeginsIf old.held node writing reading old.value thread reply new.value
-  pub answers : answer ≡ answer_of (Ok reply)
-  pub held : new.held ≡ old.held
-
--- the same of a transaction that is dropped
-abbrev pub AbortsIf : Bool → ℕ → ℕ → Session → Reply → Session → Type 0
-AbortsIf true node thread old reply new = Aborts node thread old reply new
-AbortsIf false node thread old reply new = reply ≡ Refused Down
-
-pub record AbortsBy (old : Handle) (node thread : ℕ) (answer : Answer) (new : Handle) : Type 0 where
-  pub reply : Reply
-  pub aborts : AbortsIf old.held node thread old.value reply new.value
   pub answers : answer ≡ answer_of (Ok reply)
   pub held : new.held ≡ old.held
 
@@ -102,7 +89,6 @@ pub record IsBegun (nodes threads segments pages words : ℕ) (new : Handle) : T
   pub geometry_is : geometry_of new.value.stage ≡ Some geometry
   pub numbers : HasNumbers geometry nodes threads segments pages words
   pub none : gathered new.value.stage ≡ []
-  pub kept : IsNone new.value.kept
   pub truncation : new.value.truncation ≡ None
 
 -- the area of a file was added, or nothing has changed: there was no memory, or the session had started

@@ -7,10 +7,11 @@ pub mod Handle
 pub mod Lent
 pub mod Beside
 pub mod BeginsFree
-pub mod SuspendedTransactions
-pub mod SetsAside
-pub mod Restores
-pub mod Aborts
 pub mod Truncating
 pub mod Calls
-pub mod EmptyingCalls
+pub mod TruncationCalls
+pub mod DraftHandle
+pub mod LentDraft
+pub mod Handing
+pub mod DraftCalls
+pub mod HandingCalls

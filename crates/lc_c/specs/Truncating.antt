@@ -44,4 +44,3 @@ pub record Truncates (node : ℕ) (old : Session) (reply : Reply) (new : Session
   pub steps : TruncatesStage old.stage (going_on old.truncation node) step new.stage
   pub answers : reply ≡ reply_of step
   pub truncation : new.truncation ≡ left_of step
-  pub kept : new.kept ≡ old.kept

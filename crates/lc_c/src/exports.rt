@@ -1,9 +1,9 @@
 //! What C calls.
 ghost use Rattle.std.specs.Prelude.{◌≡◌, ◌⊎◌, [], true, false, Ok, Some, length};
 ghost use Rattle.lc_record.specs.Geometry.{HasNumbers, IsGeometry};
-ghost use Rattle.lc_model.specs.declared.event.Event.TheVariants.{Arrive, Begin, Close, Deliver, FlushStep, Leave};
+ghost use Rattle.lc_model.specs.declared.event.Event.TheVariants.{Abort, Arrive, Begin, Close, Deliver, FlushStep, Leave};
 ghost use Rattle.lc_model.specs.declared.event.Event.TheVariants.{Read, RecoverStep, Reserve, SetRange, Trim, Write};
-ghost use Rattle.lc_c.specs.Calls.{AbortsBy, AbortsIf, AddsIf, BeginsBy, BeginsIf, Fills, IsBegun, StartsIf, Steps};
+ghost use Rattle.lc_c.specs.Calls.{AddsIf, BeginsBy, BeginsIf, Fills, IsBegun, StartsIf, Steps};
 ghost use Rattle.lc_c.specs.Calls.{StepsIf, TellsBytes, TellsCall};
 ghost use Rattle.lc_c.specs.SessionState.{is_step};
 ghost use Rattle.lc_c.specs.declared.session_state.SessionState.TheVariants.{Over};
@@ -200,12 +200,10 @@ pub extern "C" fn lcrvm_session_abort(
     thread: u16,
     answer: &mut Answer,
 ) -> u32
-    ensures aborts { AbortsBy handle.old node thread answer.new handle.new }
+    ensures steps { Steps handle.old (Abort node thread) answer.new handle.new }
     ensures status { result ≡ answer.new.status }
 {
-    let said = Ok(aborted(alloc, handle, node, thread));
-    *answer = Answer::of(&said);
-    answer.status
+    step(alloc, handle, &Event::Abort { node, thread }, answer)
 }
 
 /// It gets its place in the log.
@@ -425,16 +423,6 @@ fn begun_free(handle: &mut Handle, node: u16, writing: &[u32], reading: &[u32]) 
         return (0, Reply::Refused(Refusal::Down));
     }
     handle.get_mut().begin_free(node, writing, reading)
-}
-
-fn aborted(alloc: Global, handle: &mut Handle, node: u16, thread: u16) -> Reply
-    ensures aborts { AbortsIf handle.old.held node thread handle.old.value result handle.new.value }
-    ensures held { handle.new.held ≡ handle.old.held }
-{
-    if !handle.is_held() {
-        return Reply::Refused(Refusal::Down);
-    }
-    handle.get_mut().abort(alloc, node, thread)
 }
 
 fn written(

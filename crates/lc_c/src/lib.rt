@@ -2,23 +2,20 @@
 //! the area.
 #![tactic(auto)]
 
-mod aborted_range;
-mod aborting;
 mod answer;
 mod area_call;
-mod aside;
 mod begin_free;
 mod box_parts;
-mod emptying_exports;
+mod draft_exports;
+mod draft_handle;
 mod exports;
+mod handing;
+mod handing_exports;
 mod handle;
-mod keeping;
 mod last_call;
 mod mirror_area;
-mod restoring;
 mod round_exports;
 mod session;
 mod session_state;
-mod setting_aside;
-mod suspended_transactions;
 mod truncating;
+mod truncation_exports;

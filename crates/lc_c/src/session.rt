@@ -9,14 +9,12 @@ ghost use Rattle.lc_events.specs.Answered.{done as done_reply};
 ghost use Rattle.lc_c.specs.declared.session_state.SessionState.TheVariants.{Over};
 ghost use Rattle.lc_c.specs.Mirrors.{window_in};
 ghost use Rattle.lc_c.specs.declared.mirror_area.MirrorArea.{MirrorArea as Mirror};
-ghost use Rattle.lc_c.specs.SuspendedTransactions.{IsNone};
 ghost use Rattle.lc_c.specs.Beside.{IsSameBeside};
 ghost use Rattle.lc_c.specs.SessionState.{AreaAt, IsAdded, StartsStage, StepsStage, gathered, geometry_of};
 ghost use Rattle.lc_c.specs.SessionState.{is_gathering, is_step};
 
 use crate::mirror_area::MirrorArea;
 use crate::session_state::SessionState;
-use crate::suspended_transactions::SuspendedTransactions;
 use lc_core::{CallFault, Event, Refusal, Reply, Truncation, World};
 use lc_record::Geometry;
 use lc_recover::RecoverFault;
@@ -30,7 +28,6 @@ pub struct Session {
     pub(crate) stage: SessionState,
     /// The truncation of a node's log that is under way.
     pub(crate) truncation: Option<Truncation>,
-    pub(crate) kept: SuspendedTransactions,
 }
 
 impl Session {
@@ -39,7 +36,6 @@ impl Session {
         ensures gathering { is_gathering result.stage ≡ true }
         ensures geometry { geometry_of result.stage ≡ Some geometry }
         ensures none { gathered result.stage ≡ [] }
-        ensures kept { IsNone result.kept }
         ensures truncation { result.truncation ≡ None }
     {
         Session {
@@ -48,7 +44,6 @@ impl Session {
                 areas: Vec::new(alloc),
             },
             truncation: None,
-            kept: SuspendedTransactions::new(alloc),
         }
     }
 

@@ -1,12 +1,22 @@
--- What a draft has locked and set.
-use Rattle.std.specs.Prelude.{◌≡◌, ℕ, List, []}
+-- What a draft has locked and set, and what its work does.
+use Rattle.std.specs.Prelude.{◌≡◌, ◌≢◌, ℕ, List, [], Result, Ok, Err, OnErr, OnOk, length, take, drop, slice_index}
+use Rattle.std.specs.declared.alloc.AllocError.{AllocError}
+use Rattle.lc_record.specs.Content.{put}
 use Rattle.lc_record.specs.Transaction.{Transaction}
 use Rattle.lc_record.specs.Geometry.{segment_len}
 use Rattle.lc_record.specs.declared.geometry.Geometry.{Geometry}
-use Rattle.lc_range.specs.Undo.{OldBytes}
+use Rattle.lc_range.specs.RangeSet.{AddsPositions}
+use Rattle.lc_range.specs.Undo.{KeepsOld, OldBytes}
 use Rattle.lc_range.specs.declared.range.Range.{Range}
+use Rattle.lc_model.specs.Refusals.{read_refusal, set_range_refusal, write_refusal}
 use Rattle.lc_model.specs.Sound.{IsProper}
-use Rattle.lc_changes.specs.Calls.{AreRangesOf}
+use Rattle.lc_model.specs.declared.refusal.Refusal.{Refusal}
+use Rattle.lc_model.specs.declared.refusal.Refusal.TheVariants.{Unknown}
+use Rattle.lc_model.specs.declared.reply.Reply.{Reply}
+use Rattle.lc_model.specs.declared.reply.Reply.TheVariants.{Ok as Accepted, Refused}
+use Rattle.lc_changes.specs.Calls.{AreRangesOf, refused_or}
+use Rattle.lc_changes.specs.Replies.{AnswersRange, done_or}
+use Rattle.lc_changes.specs.Setting.{RangeTakesMemory}
 use Rattle.lc_changes.specs.declared.draft.Draft.{Draft}
 
 -- what it has locked for writing, and for reading
@@ -54,3 +64,29 @@ pub record IsDraftOf (g : Geometry) (t : Transaction) (d : Draft) : Type 0 where
   pub same_reading : t.reading ≡ reading_of d
   pub ranges : AreRangesOf t.marks (set_of d)
   pub long : image_len_of d ≡ segment_len g
+
+-- what a range is answered, and what becomes of the draft
+pub record SetsRange (old : Draft) (segment : ℕ) (image : List ℕ) (offset len : ℕ) (said : Result Reply AllocError) (new : Draft) : Type 0 where
+  pub no_image : length image ≢ image_len_of old → said ≡ Ok (Refused Unknown)
+  pub answers : length image ≡ image_len_of old → (g : Geometry) (t : Transaction) → IsDraftOf g t old → AnswersRange (set_range_refusal g t segment offset len) said
+  pub sets : said ≡ Ok Accepted → AddsPositions (set_of old) segment offset len (set_of new)
+  pub keeps : said ≡ Ok Accepted → KeepsOld (undo_of old) (set_of old) segment offset len (slice_index image) (undo_of new)
+  pub none : said ≢ Ok Accepted → (set_of new ≡ set_of old) × (undo_of new ≡ undo_of old)
+  pub needs : OnErr said (RangeTakesMemory (set_of old) (undo_of old) segment offset len)
+  pub locks : SameLocks old new
+  pub same_len : image_len_of new ≡ image_len_of old
+  pub same_handed : handed_of new ≡ handed_of old
+
+-- what a write is answered, and what becomes of the image
+pub record WritesBytes (d : Draft) (segment : ℕ) (image : List ℕ) (offset : ℕ) (bytes : List ℕ) (reply : Reply) (new : List ℕ) : Type 0 where
+  pub no_image : length image ≢ image_len_of d → reply ≡ Refused Unknown
+  pub answers : length image ≡ image_len_of d → (g : Geometry) (t : Transaction) → IsDraftOf g t d → reply ≡ refused_or (write_refusal g t segment offset bytes) Accepted
+  pub written : reply ≡ Accepted → new ≡ put offset bytes image
+  pub none : reply ≢ Accepted → new ≡ image
+
+-- how a read is refused, or done, and what becomes of its buffer
+pub record ReadsBytes (d : Draft) (segment : ℕ) (image : List ℕ) (offset : ℕ) (buffer : List ℕ) (done : Result (Unit {0}) Refusal) (new : List ℕ) : Type 0 where
+  pub no_image : length image ≢ image_len_of d → done ≡ Err Unknown
+  pub answers : length image ≡ image_len_of d → (g : Geometry) (t : Transaction) → IsDraftOf g t d → done ≡ done_or (read_refusal g t segment offset (length buffer))
+  pub filled : OnOk done (new ≡ take (length buffer) (drop offset image))
+  pub none : OnErr done (new ≡ buffer)

@@ -39,3 +39,8 @@ RangeReplied (Err other) said = said ≡ Ok (Refused (refusal_to other))
 abbrev pub WriteReplied : Result (Unit {0}) TxFault → Reply → Type 0
 WriteReplied (Ok its) reply = reply ≡ Accepted
 WriteReplied (Err other) reply = reply ≡ Refused (refusal_to other)
+
+-- it is done, unless it is refused
+abbrev pub done_or : Option Refusal → Result (Unit {0}) Refusal
+done_or None = Ok tt
+done_or (Some refusal) = Err refusal

@@ -1,16 +1,10 @@
 //! What an open transaction has locked, and what it has set of images that its caller keeps.
-ghost use Rattle.std.specs.Prelude.{◌≡◌, ◌≢◌, ◌||◌, ◌+◌, ◌<◌, ◌≤◌, ℕ, [], Some, None, length, take, drop, slice_get, slice_index};
-ghost use Rattle.std.specs.Prelude.{unwrap_or, option_copied, vec_capacity, IfErr, IfOk, IsErr, IsOk, IsTrue, OnErr, OnOk};
-ghost use Rattle.lc_record.specs.Content.{put};
-ghost use Rattle.lc_record.specs.Transaction.{Transaction, is_member};
-ghost use Rattle.lc_record.specs.declared.geometry.Geometry.{Geometry};
-ghost use Rattle.lc_range.specs.RangeSet.{AddsPositions, EndWithin, IsCanonical};
-ghost use Rattle.lc_range.specs.Undo.{KeepsOld, kept};
-ghost use Rattle.lc_model.specs.Refusals.{read_refusal, set_range_refusal, write_refusal};
-ghost use Rattle.lc_model.specs.declared.reply.Reply.TheVariants.{Ok as Accepted, Refused};
-ghost use Rattle.lc_changes.specs.Calls.{refused_or};
-ghost use Rattle.lc_changes.specs.Replies.{AnswersRange, change_refusal};
-ghost use Rattle.lc_changes.specs.Setting.{RangeTakesMemory};
+ghost use Rattle.std.specs.Prelude.{◌≡◌, ◌≢◌, ◌↔◌, ◌||◌, ◌+◌, ◌<◌, ◌≤◌, ℕ, [], Some, None, length, slice_get};
+ghost use Rattle.std.specs.Prelude.{slice_index, unwrap_or, vec_capacity, IfOk, IsOk, IsTrue, OnErr, OnOk};
+ghost use Rattle.lc_record.specs.Transaction.{is_member};
+ghost use Rattle.lc_range.specs.Undo.{kept};
+ghost use Rattle.lc_range.specs.declared.range.Range.{Range as Stretch};
+ghost use Rattle.lc_changes.specs.Replies.{change_refusal};
 
 use crate::changes::Changes;
 use crate::replies::{range_reply, write_reply};
@@ -36,7 +30,7 @@ pub struct Draft {
 }
 
 impl Draft {
-    ghost use Rattle.lc_changes.specs.Draft.{HasNothing, IsDraftOf, IsSameBut, SameLocks};
+    ghost use Rattle.lc_changes.specs.Draft.{HasNothing, IsSameBut, ReadsBytes, SameLocks, SetsRange, WritesBytes};
     ghost use Rattle.lc_changes.specs.Draft.{handed_of, image_len_of, reading_of, set_of, undo_of, writing_of};
 
     /// Nothing is locked, of images of so many bytes.
@@ -102,7 +96,8 @@ impl Draft {
         self.handed = 0;
     }
 
-    /// The transaction is about to change `len` bytes of a segment, from `offset` on. It answers as the store.
+    /// The transaction is about to change `len` bytes of a segment, whose image is this, from `offset` on. It answers as
+    /// the store.
     ///
     /// # Errors
     ///
@@ -114,41 +109,32 @@ impl Draft {
         offset: u32,
         len: u32,
     ) -> Result<Reply, AllocError>
-        requires { length image.now ≡ image_len_of self.old }
-        ensures answers { (g : Geometry) (t : Transaction) → IsDraftOf g t self.old
-            → AnswersRange (set_range_refusal g t segment offset len) result }
-        ensures sets { result ≡ Ok Accepted → AddsPositions (set_of self.old) segment offset len (set_of self.new) }
-        ensures kept { result ≡ Ok Accepted
-            → KeepsOld (undo_of self.old) (set_of self.old) segment offset len (slice_index image.now)
-            (undo_of self.new) }
-        ensures locks { SameLocks self.old self.new }
-        ensures image_len { image_len_of self.new ≡ image_len_of self.old }
-        ensures handed { handed_of self.new ≡ handed_of self.old }
-        ensures none { result ≢ Ok Accepted → (set_of self.new ≡ set_of self.old) × (undo_of self.new ≡ undo_of self.old) }
-        ensures needs { OnErr result (RangeTakesMemory (set_of self.old) (undo_of self.old) segment offset len) }
+        ensures { SetsRange self.old segment image.now offset len result self.new }
     {
+        if !self.is_image(image) {
+            return Ok(Reply::Refused(Refusal::Unknown));
+        }
         if let Some(refusal) = self.refusal(segment) {
             return Ok(Reply::Refused(refusal));
         }
         range_reply(self.changes.set_range(segment, image, offset, len))
     }
 
-    /// It writes bytes over those of a segment, from `offset` on, each at a position that is set. It answers as the
-    /// store. Where that is a refusal the image is as before.
+    /// It writes bytes over those of a segment, whose image is this, from `offset` on, each at a position that is set.
+    /// It answers as the store. Where that is a refusal the image is as before.
     pub fn write(&self, segment: u32, image: &mut [u8], offset: u32, bytes: &[u8]) -> Reply
-        requires { length image.old ≡ image_len_of self.now }
-        ensures answers { (g : Geometry) (t : Transaction) → IsDraftOf g t self.now
-            → result ≡ refused_or (write_refusal g t segment offset bytes.now) Accepted }
-        ensures written { result ≡ Accepted → image.new ≡ put offset bytes.now image.old }
-        ensures none { result ≢ Accepted → image.new ≡ image.old }
+        ensures { WritesBytes self.now segment image.old offset bytes.now result image.new }
     {
+        if !self.is_image(image) {
+            return Reply::Refused(Refusal::Unknown);
+        }
         if let Some(refusal) = self.refusal(segment) {
             return Reply::Refused(refusal);
         }
         write_reply(self.changes.write(segment, image, offset, bytes))
     }
 
-    /// Fills a buffer with bytes of a segment, from `offset` on.
+    /// Fills a buffer with bytes of a segment, whose image is this, from `offset` on.
     ///
     /// # Errors
     ///
@@ -160,14 +146,11 @@ impl Draft {
         offset: u32,
         buffer: &mut [u8],
     ) -> Result<(), Refusal>
-        requires { length image.now ≡ image_len_of self.now }
-        ensures answers { (g : Geometry) (t : Transaction) → IsDraftOf g t self.now → IfErr result (λ refusal.
-            read_refusal g t segment offset (length buffer.old) ≡ Some refusal) }
-        ensures done { (g : Geometry) (t : Transaction) → IsDraftOf g t self.now → IfOk result (λ _.
-            read_refusal g t segment offset (length buffer.old) ≡ None) }
-        ensures bytes { OnOk result (buffer.new ≡ take (length buffer.old) (drop offset image.now)) }
-        ensures none { OnErr result (buffer.new ≡ buffer.old) }
+        ensures { ReadsBytes self.now segment image.now offset buffer.old result buffer.new }
     {
+        if !self.is_image(image) {
+            return Err(Refusal::Unknown);
+        }
         if !self.holds(segment) {
             return Err(Refusal::NotLocked);
         }
@@ -180,20 +163,38 @@ impl Draft {
         Ok(())
     }
 
-    /// Puts back the bytes that a segment's image had before the transaction. It takes no memory.
+    /// Puts back the bytes that a segment's image had before the transaction; an array of another length is none, and
+    /// stays. It takes no memory.
     pub fn restore(&self, segment: u32, image: &mut [u8])
-        requires { length image.old ≡ image_len_of self.now }
         ensures len { length image.new ≡ length image.old }
-        ensures bytes { (k : ℕ) → slice_index image.new k
+        ensures other { length image.old ≢ image_len_of self.now → image.new ≡ image.old }
+        ensures bytes { length image.old ≡ image_len_of self.now → (k : ℕ) → slice_index image.new k
             ≡ unwrap_or (kept (undo_of self.now) segment k) (slice_index image.old k) }
     {
-        self.changes.restore(segment, image);
+        if self.is_image(image) {
+            self.changes.restore(segment, image);
+        }
+    }
+
+    /// The segments that are locked for writing, and those that are for reading.
+    pub fn locks(&self) -> (&[u32], &[u32])
+        ensures writing { result.0.now ≡ writing_of self.now }
+        ensures reading { result.1.now ≡ reading_of self.now }
+    {
+        (&self.writing, &self.reading)
+    }
+
+    // Whether an array has the length of an image.
+    fn is_image(&self, image: &[u8]) -> bool
+        ensures { IsTrue result ↔ (length image.now ≡ image_len_of self.now) }
+    {
+        image.len() == self.changes.image_len() as usize
     }
 
     /// The next range that is to be handed over to the store, if there is one: they ascend by segment and offset.
     pub fn next(&self) -> Option<Range>
         ensures next { result ≡ slice_get (set_of self.now) (handed_of self.now) }
-        ensures inside { (range : Range) → result ≡ Some range
+        ensures inside { (range : Stretch) → result ≡ Some range
             → range.offset + range.len ≤ image_len_of self.now }
     {
         let ranges = self.changes.ranges();

@@ -1,6 +1,5 @@
 use Rattle.std.proofs.Common.{◌≡◌, ◌∙◌, [], true, refl, subst, sym, inl}
 use Rattle.std.specs.Prelude.{None, Some}
-use Rattle.lc_c.specs.SuspendedTransactions.{IsNone}
 use Rattle.lc_c.specs.SessionState.{gathered, geometry_of, is_gathering}
 use Rattle.lc_c.specs.declared.session.Session.{Session}
 use Rattle.lc_c.proofs.exports.lcrvm_session_new.Goals as goal
@@ -17,7 +16,6 @@ returns-in-Ok-clause-begun c none fits =
         geometry_is = subst (λ (s : Session). geometry_of s.stage ≡ Some g) made c.new-2.ensures.geometry;
         numbers = c.in-Some.ensures.value;
         none = subst (λ (s : Session). gathered s.stage ≡ []) made c.new-2.ensures.none;
-        kept = subst (λ (s : Session). IsNone s.kept) made c.new-2.ensures.kept;
         truncation = subst (λ (s : Session). s.truncation ≡ None) made c.new-2.ensures.truncation;
       },
     )

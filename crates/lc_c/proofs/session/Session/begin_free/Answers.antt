@@ -15,5 +15,5 @@ loop-thread-preserved c =
       λ found reply new rest. c.loop-thread.invariant.0 found reply new
           (next_asked c.saturating_sub-last.result k c.args.node c.args.writing.now c.args.reading.now c.loop-thread.self.stage mid first c.loop-thread-test.true c.begin-reply.ensures.steps
           (sym c.is_taken.ensures ∙ c.if-not-is_taken.false) found reply new rest),
-      record { kept = same.kept ∙ c.loop-thread.invariant.1.kept; truncation = same.truncation ∙ c.loop-thread.invariant.1.truncation },
+      record { truncation = same.truncation ∙ c.loop-thread.invariant.1.truncation },
     )

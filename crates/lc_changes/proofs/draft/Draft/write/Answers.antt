@@ -5,10 +5,14 @@ use Rattle.lc_changes.specs.Draft.{reading_of, set_of, writing_of}
 use Rattle.lc_changes.proofs.Drafting.{may_change, write_answers}
 use Rattle.lc_changes.proofs.draft.Draft.write.Goals as goal
 
-pub returns-clause-answers : goal.returns-clause-answers
-returns-clause-answers c = λ g t is.
-    let d = c.args.self.now in
-    let none : change_refusal (writing_of d) (reading_of d) c.args.segment ≡ None = search rules in
-    let lock : is_member c.args.segment t.locked ≡ true = ap (is_member c.args.segment) is.same_locked ∙ may_change (writing_of d) (reading_of d) c.args.segment none in
-    write_answers g t (set_of d) c.args.segment c.args.offset c.args.bytes.now d.changes.image_len is.ranges lock is.long c.write.result c.write_reply.result
-    c.write.ensures.outside c.write.ensures.no_range c.write.ensures.faults c.write_reply.ensures
+pub returns : goal.returns
+returns c =
+    let d = c.args.self.now in let does = c.write.ensures in
+    let none : change_refusal (writing_of d) (reading_of d) c.args.segment ≡ None = search rules in record {
+      no_image = search rules;
+      answers = λ fits g t is.
+          let lock : is_member c.args.segment t.locked ≡ true = ap (is_member c.args.segment) is.same_locked ∙ may_change (writing_of d) (reading_of d) c.args.segment none in
+          write_answers g t (set_of d) c.args.segment c.args.offset c.args.bytes.now d.changes.image_len is.ranges lock is.long c.write.result c.write_reply.result does.outside does.no_range does.faults c.write_reply.ensures;
+      written = search rules;
+      none = search rules;
+    }
