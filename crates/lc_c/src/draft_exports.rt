@@ -128,7 +128,10 @@ fn new_draft(alloc: Global, image_len: u32) -> Result<Box<Draft>, AllocError>
     ensures nothing { IfOk result (λ d. HasNothing d.value) }
     ensures image_len { IfOk result (λ d. image_len_of d.value ≡ image_len) }
 {
-    Box::new(alloc, Draft::new(alloc, image_len)?)
+    match Box::new(alloc, Draft::new(alloc, image_len)?) {
+        Ok(draft) => Ok(draft),
+        Err(_) => Err(AllocError),
+    }
 }
 
 fn range_set(
