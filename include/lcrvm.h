@@ -41,9 +41,8 @@
 
    Signals. No call may come from a signal's handler. A call that a signal interrupts goes on.
 
-   Memory. lcrvm_create, lcrvm_open and lcrvm_copy take memory; lcrvm_set_range, lcrvm_put, lcrvm_deliver and commits
-   may. Of a transaction beside which a log was emptied the next set_range, put, write, read or commit may too. All
-   that a store has taken is given back by lcrvm_close. */
+   Memory. lcrvm_create, lcrvm_open and lcrvm_copy take memory; lcrvm_set_range, lcrvm_put, lcrvm_change, lcrvm_deliver
+   and commits may. All that a store has taken is given back by lcrvm_close. */
 #ifndef LCRVM_H
 #define LCRVM_H
 
@@ -84,7 +83,7 @@ enum lcrvm_status {
     LCRVM_WRITING = 17,         /* a page of the segment is being written */
     LCRVM_UNFLUSHED = 18,       /* a record of the node is not stable */
     LCRVM_BEHIND = 19,          /* the node has not applied all that the token has counted: applied, sequence */
-    LCRVM_UNCOMMITTED = 20,     /* a transaction that is not over has a range on the page */
+    LCRVM_UNCOMMITTED = 20,     /* of no call any more */
     LCRVM_NOT_NEWER = 21,       /* the page on the device has all of the segment's numbers */
     LCRVM_UNCLEAN = 22,         /* a record of the log may not be on the pages: segment, sequence */
     LCRVM_ROUNDS_SPENT = 23,    /* the log has had its last round */
@@ -200,10 +199,11 @@ enum lcrvm_status lcrvm_close(struct lcrvm_store *store, struct lcrvm_fault *fau
 
 /* Makes a store of its own in another folder, as this one is now, with each commit that was acknowledged before the
    call. It flushes all nodes; transactions that are open go on, and what they have changed is not in the copy. The
-   folder is made where it is missing. MISUSE; EXISTS where one of its names is taken that a store of any size may have;
+   copy may be larger: with a geometry it has as many nodes, and no fewer segments, pages and words; what it has more is
+   zero. The folder is made where it is missing. MISUSE; UNKNOWN of a number that no copy has: text; EXISTS where one of its names is taken that a store of any size may have;
    STORE_IN_USE; NO_MEMORY. DEVICE_FAULT is of this store where a flush failed, which ends it, and else of the copy,
    and then the store goes on. What was made is taken away again as by lcrvm_create; a copy that was cut is no store. */
-enum lcrvm_status lcrvm_copy(struct lcrvm_store *store, const char *folder);
+enum lcrvm_status lcrvm_copy(struct lcrvm_store *store, const char *folder, const struct lcrvm_geometry *geometry);
 
 /* ---- Transactions of a program's threads */
 
@@ -221,6 +221,17 @@ enum lcrvm_status lcrvm_begin(struct lcrvm_store *store, uint32_t node, uint32_t
    lcrvm_write in one, or neither of them. Of no bytes nothing is asked of the store. */
 enum lcrvm_status lcrvm_put(struct lcrvm_store *store, uint32_t node, uint32_t transaction, uint32_t segment,
                             uint32_t offset, const void *bytes, uint32_t length);
+
+/* Hands out where the bytes of a segment stand that the transaction has locked, to be read in place until it ends, and
+   how many they are. `length` may be NULL. UNKNOWN, OUT_OF_TURN, NOT_LOCKED: *bytes is NULL then. */
+enum lcrvm_status lcrvm_bytes(struct lcrvm_store *store, uint32_t node, uint32_t transaction, uint32_t segment,
+                              const void **bytes, size_t *length);
+
+/* Says that the transaction is about to change these bytes of a segment, as lcrvm_set_range does, and hands out where
+   they stand, to be changed in place until the transaction ends. No byte beside them may be changed, and none after
+   the end. As of lcrvm_set_range; *bytes is NULL then. */
+enum lcrvm_status lcrvm_change(struct lcrvm_store *store, uint32_t node, uint32_t transaction, uint32_t segment,
+                               uint32_t offset, uint32_t length, void **bytes);
 
 /* Commits the transaction; *transaction is LCRVM_NO_TRANSACTION then. With `flush` it answers once the commit is
    stable, and all that the transaction may have read. `record` may be NULL. UNKNOWN, OUT_OF_TURN where there is no such
@@ -282,9 +293,8 @@ enum lcrvm_status lcrvm_abort_transaction(struct lcrvm_store *store, uint32_t no
 enum lcrvm_status lcrvm_flush(struct lcrvm_store *store, uint32_t node, uint64_t *records);
 
 /* Flushes the node's log, writes its pages and empties the log; `rounds`, which may be NULL, is how often it was
-   emptied since the store was opened. UNKNOWN, UNCOMMITTED, UNFLUSHED, UNCLEAN, ROUNDS_SPENT. What was done before
-   the refusal stays done; of UNCOMMITTED, where an open transaction has a range on a page that is to be written,
-   that is the flush alone. */
+   emptied since the store was opened. Open transactions go on, and nothing that they wrote is in a page. UNKNOWN,
+   UNFLUSHED, UNCLEAN, ROUNDS_SPENT. What was done before the refusal stays done. */
 enum lcrvm_status lcrvm_truncate(struct lcrvm_store *store, uint32_t node, uint64_t *rounds);
 
 /* Drops the node's stable records that all nodes have applied; `count`, which may be NULL, is how many these were.

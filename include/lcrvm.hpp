@@ -41,7 +41,10 @@ public:
     explicit store(const std::string &folder) { check(lcrvm_open(folder.c_str(), nullptr, &handle_->at, nullptr)); }
     lcrvm_store *get() const noexcept { return handle_ ? handle_->at : nullptr; }
     void flush(uint32_t node = 0) const { check(lcrvm_flush(get(), node, nullptr)); }
-    void copy(const std::string &folder) const { check(lcrvm_copy(get(), folder.c_str())); }
+    void copy(const std::string &folder, const lcrvm_geometry *geometry = nullptr) const
+    {
+        check(lcrvm_copy(get(), folder.c_str(), geometry));
+    }
     void close() {
         lcrvm_status status = lcrvm_close(get(), nullptr);
         if (handle_ && status != LCRVM_BUSY) handle_->at = nullptr;

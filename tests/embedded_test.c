@@ -293,7 +293,7 @@ static void given_up(struct lcrvm_store *store)
     ANSWERS(lcrvm_abort(store, 0, &thread), LCRVM_DEVICE_FAULT);
     CHECK(thread == LCRVM_NO_TRANSACTION);
     ANSWERS(lcrvm_put(store, 0, 0, 1, 0, "x", 1), LCRVM_DEVICE_FAULT);
-    ANSWERS(lcrvm_copy(store, "/nowhere/at/all"), LCRVM_DEVICE_FAULT);
+    ANSWERS(lcrvm_copy(store, "/nowhere/at/all", NULL), LCRVM_DEVICE_FAULT);
     CHECK(is_failure(lcrvm_fault_of(store)));
     ANSWERS(lcrvm_close(store, &fault), LCRVM_DEVICE_FAULT);
     CHECK(is_failure(&fault));
@@ -1356,8 +1356,8 @@ static void put_two(struct lcrvm_store *store, uint32_t node, uint32_t segment)
     ANSWERS(put(store, node, segment, 40, "second"), LCRVM_OK);
 }
 
-/* The log is emptied beside another transaction, which keeps its locks, its ranges and what it wrote, in the way
-   of a page that is to be written and elsewhere. */
+/* The log is emptied beside another transaction, which keeps its locks, its ranges and what it wrote, on a page that
+   is to be written and elsewhere. */
 static void test_full_where_another_has_ranges(const char *folder)
 {
     static const uint32_t second[] = {2};
@@ -1373,12 +1373,10 @@ static void test_full_where_another_has_ranges(const char *folder)
     ANSWERS(lcrvm_set_range(store, 0, 1, 2, 900, 8), LCRVM_OK);
     ANSWERS(lcrvm_write(store, 0, 1, 2, 902, "open", 4), LCRVM_OK);
     ANSWERS(lcrvm_set_range(store, 0, 1, 2, 100, 1), LCRVM_OK);
-    ANSWERS(lcrvm_truncate(store, 0, NULL), LCRVM_UNCOMMITTED);
     ANSWERS(begin(store, 0, 0, 1), LCRVM_OK);
     put_two(store, 0, 1);
     ANSWERS(lcrvm_end_transaction(store, 0, 0, false, &placed), LCRVM_OK);
     CHECK(placed.place == 0 && placed.words == TWO_RANGES);
-    CHECK(lcrvm_fault_of(store)->status == LCRVM_UNCOMMITTED);
     CHECK(holds(store, 0, 1, 0, "first") && holds(store, 0, 1, 40, "second"));
     ANSWERS(begin(store, 0, 0, 2), LCRVM_BUSY);
     ANSWERS(lcrvm_begin_transaction(store, 0, 1, NULL, 0, NULL, 0), LCRVM_OUT_OF_TURN);
@@ -1476,39 +1474,97 @@ static bool is_held(const char *folder, const struct held *held)
            memcmp(held->bytes[1], now.bytes[1], held->lens[1]) == 0;
 }
 
-/* A truncation with an open range on a page that is to be written writes none, also none in front of it, and
-   flushes; a range on another page is in nobody's way. */
-static void test_uncommitted(const char *folder)
+/* Whether a file holds these bytes somewhere. */
+static bool has_bytes(const char *folder, const char *name, const char *bytes)
+{
+    static char text[MOST_BYTES];
+    size_t len = read_bytes(below(folder, name), text);
+
+    for (size_t at = 0; at + strlen(bytes) <= len; at++)
+        if (memcmp(text + at, bytes, strlen(bytes)) == 0)
+            return true;
+    return false;
+}
+
+/* A truncation writes the pages on which an open transaction has ranges, with what is committed there. What that one
+   wrote is in no file until it is committed. */
+static void test_truncates_beside_ranges(const char *folder)
 {
     static const uint32_t second[] = {2};
     static struct held held;
     struct lcrvm_store *store = made_as(folder, &one);
-    char log[MOST_BYTES];
+    char bytes[8];
     uint64_t rounds = 7;
 
     ANSWERS(commit(store, 0, 1, 508, "bytes"), LCRVM_OK);
     ANSWERS(commit(store, 0, 2, 600, "second"), LCRVM_OK);
     ANSWERS(lcrvm_begin_transaction(store, 0, 1, second, 1, NULL, 0), LCRVM_OK);
-    ANSWERS(lcrvm_set_range(store, 0, 1, 2, 767, 1), LCRVM_OK);
+    ANSWERS(lcrvm_set_range(store, 0, 1, 2, 600, 100), LCRVM_OK);
+    ANSWERS(lcrvm_write(store, 0, 1, 2, 602, "unsaid", 6), LCRVM_OK);
     hold(folder, &held);
-    ANSWERS(lcrvm_truncate(store, 0, &rounds), LCRVM_UNCOMMITTED);
-    CHECK(rounds == 7 && lcrvm_fault_of(store)->status == LCRVM_UNCOMMITTED);
-    CHECK(is_held(folder, &held));
-    CHECK(read_bytes(below(folder, "log0"), log) == 65 * 8 && (unsigned char)log[0] == 0xa5);
-    ANSWERS(lcrvm_abort_transaction(store, 0, 1), LCRVM_OK);
-    ANSWERS(lcrvm_begin_transaction(store, 0, 1, second, 1, NULL, 0), LCRVM_OK);
-    ANSWERS(lcrvm_set_range(store, 0, 1, 2, 768, 1), LCRVM_OK);
-    ANSWERS(lcrvm_set_range(store, 0, 1, 2, 511, 1), LCRVM_OK);
     ANSWERS(lcrvm_truncate(store, 0, &rounds), LCRVM_OK);
     CHECK(rounds == 1 && !is_held(folder, &held));
+    CHECK(has_bytes(folder, "seg2", "second"));
+    CHECK(!has_bytes(folder, "seg2", "unsaid") && !has_bytes(folder, "log0", "unsaid"));
     /* The pages are clean now, and are not written again. */
     hold(folder, &held);
-    ANSWERS(lcrvm_set_range(store, 0, 1, 2, 600, 1), LCRVM_OK);
     ANSWERS(lcrvm_truncate(store, 0, &rounds), LCRVM_OK);
     CHECK(rounds == 1 && is_held(folder, &held));
+    ANSWERS(lcrvm_read(store, 0, 1, 2, 600, bytes, 8), LCRVM_OK);
+    CHECK(memcmp(bytes, "seunsaid", 8) == 0);
+    ANSWERS(lcrvm_abort_transaction(store, 0, 1), LCRVM_OK);
+    CHECK(holds(store, 0, 2, 600, "second"));
+    ANSWERS(lcrvm_begin_transaction(store, 0, 1, second, 1, NULL, 0), LCRVM_OK);
+    ANSWERS(lcrvm_put(store, 0, 1, 2, 600, "said", 4), LCRVM_OK);
+    ANSWERS(lcrvm_truncate(store, 0, &rounds), LCRVM_OK);
+    ANSWERS(lcrvm_end_transaction(store, 0, 1, true, NULL), LCRVM_OK);
     close_well(store);
     store = opened_as(folder, &one);
-    CHECK(holds(store, 0, 1, 508, "bytes") && holds(store, 0, 2, 600, "second"));
+    CHECK(holds(store, 0, 1, 508, "bytes") && holds(store, 0, 2, 600, "saidnd"));
+    close_well(store);
+}
+
+/* Bytes that are read and changed in place are those that are committed, or are as before after an abort. */
+static void test_in_place(const char *folder)
+{
+    static const uint32_t first = 1, second = 2;
+    struct lcrvm_store *store = made_as(folder, &one);
+    const void *seen = folder, *again;
+    void *changed = store;
+    size_t length = 7;
+
+    ANSWERS(commit(store, 0, 1, 10, "before"), LCRVM_OK);
+    ANSWERS(lcrvm_bytes(store, 0, 0, 1, &seen, &length), LCRVM_OUT_OF_TURN);
+    CHECK(seen == NULL);
+    ANSWERS(lcrvm_change(store, 0, 0, 1, 0, 4, &changed), LCRVM_OUT_OF_TURN);
+    CHECK(changed == NULL);
+    ANSWERS(lcrvm_bytes(store, 0, 0, 1, NULL, NULL), LCRVM_MISUSE);
+    ANSWERS(lcrvm_change(store, 0, 0, 1, 0, 4, NULL), LCRVM_MISUSE);
+    ANSWERS(lcrvm_begin_transaction(store, 0, 0, &first, 1, &second, 1), LCRVM_OK);
+    ANSWERS(lcrvm_bytes(store, 0, 0, 3, &seen, &length), LCRVM_UNKNOWN);
+    ANSWERS(lcrvm_bytes(store, 0, 0, 0, &seen, &length), LCRVM_UNKNOWN);
+    ANSWERS(lcrvm_bytes(store, 0, 0, 1, &seen, &length), LCRVM_OK);
+    CHECK(length == (size_t)one.pages * 256 && memcmp((const char *)seen + 10, "before", 6) == 0);
+    ANSWERS(lcrvm_bytes(store, 0, 0, 2, &again, NULL), LCRVM_OK);
+    CHECK(again != seen);
+    ANSWERS(lcrvm_change(store, 0, 0, 2, 0, 4, &changed), LCRVM_READ_ONLY);
+    ANSWERS(lcrvm_change(store, 0, 0, 1, 0, 0, &changed), LCRVM_EMPTY_RANGE);
+    ANSWERS(lcrvm_change(store, 0, 0, 1, (uint32_t)length - 1, 2, &changed), LCRVM_OUT_OF_SEGMENT);
+    CHECK(changed == NULL);
+    ANSWERS(lcrvm_change(store, 0, 0, 1, 10, 6, &changed), LCRVM_OK);
+    CHECK(changed == (const char *)seen + 10);
+    memcpy(changed, "behind", 6);
+    CHECK(reads(store, 0, 1, 10, "behind"));
+    ANSWERS(lcrvm_abort_transaction(store, 0, 0), LCRVM_OK);
+    CHECK(holds(store, 0, 1, 10, "before"));
+    ANSWERS(begin(store, 0, 0, 1), LCRVM_OK);
+    ANSWERS(lcrvm_change(store, 0, 0, 1, 12, 2, &changed), LCRVM_OK);
+    memcpy(changed, "FO", 2);
+    ANSWERS(lcrvm_end_transaction(store, 0, 0, true, NULL), LCRVM_OK);
+    CHECK(holds(store, 0, 1, 10, "beFOre"));
+    close_well(store);
+    store = opened_as(folder, &one);
+    CHECK(holds(store, 0, 1, 10, "beFOre"));
     close_well(store);
 }
 
@@ -1673,7 +1729,7 @@ static void test_misuse(const char *folder)
         ANSWERS(lcrvm_put(none, 0, 0, 1, 0, NULL, 1), LCRVM_MISUSE);
         ANSWERS(lcrvm_write(none, 0, 0, 1, 0, NULL, 1), LCRVM_MISUSE);
         ANSWERS(lcrvm_read(none, 0, 0, 1, 0, NULL, 1), LCRVM_MISUSE);
-        ANSWERS(lcrvm_copy(none, NULL), LCRVM_MISUSE);
+        ANSWERS(lcrvm_copy(none, NULL, NULL), LCRVM_MISUSE);
     }
     ANSWERS(lcrvm_begin(NULL, 0, &thread, first, 1, NULL, 0, 0), LCRVM_MISUSE);
     ANSWERS(lcrvm_begin_transaction(NULL, 0, 0, first, 1, NULL, 0), LCRVM_MISUSE);
@@ -1692,7 +1748,7 @@ static void test_misuse(const char *folder)
     ANSWERS(lcrvm_leave(NULL, 0, 1), LCRVM_MISUSE);
     ANSWERS(lcrvm_arrive(NULL, 0, 1), LCRVM_MISUSE);
     ANSWERS(lcrvm_deliver(NULL, 0, 1, 1, 0, NULL), LCRVM_MISUSE);
-    ANSWERS(lcrvm_copy(NULL, folder), LCRVM_MISUSE);
+    ANSWERS(lcrvm_copy(NULL, folder, NULL), LCRVM_MISUSE);
     /* The store goes on, and of nothing the pointer may be NULL. */
     ANSWERS(lcrvm_begin(store, 0, &thread, NULL, 0, first, 1, 0), LCRVM_OK);
     ANSWERS(lcrvm_read(store, 0, thread, 1, 0, NULL, 0), LCRVM_OK);
@@ -1855,6 +1911,37 @@ static void test_clean_close_of_two(const char *folder)
 
 /* Copies. */
 
+/* A copy may have more segments, pages and words, and no other number of nodes. */
+static void copies_larger(struct lcrvm_store *store, const char *folder)
+{
+    static const struct lcrvm_geometry larger = SIZED(1, 5, 3, 6, 128);
+    static const struct lcrvm_geometry wrong[] = {
+        SIZED(2, 2, 2, 4, 64), SIZED(1, 0, 2, 4, 64), SIZED(1, 17, 2, 4, 64), SIZED(1, 2, 1, 4, 64), SIZED(1, 2, 17, 4, 64),
+        SIZED(1, 2, 2, 3, 64), SIZED(1, 2, 2, 1025, 64), SIZED(1, 2, 2, 4, 63), SIZED(1, 2, 2, 4, 4097),
+    };
+    struct lcrvm_geometry none = larger;
+    struct lcrvm_store *copy;
+    char path[BESIDE_BYTES];
+
+    beside(folder, "larger", path);
+    for (size_t i = 0; i < sizeof wrong / sizeof wrong[0]; i++) {
+        ANSWERS(lcrvm_copy(store, path, &wrong[i]), LCRVM_UNKNOWN);
+        CHECK(strstr(lcrvm_fault_of(store)->text, ": a copy has ") != NULL);
+    }
+    none.size = 4;
+    ANSWERS(lcrvm_copy(store, path, &none), LCRVM_MISUSE);
+    ANSWERS(lcrvm_copy(store, path, &larger), LCRVM_OK);
+    copy = opened_as(path, NULL);
+    CHECK(lcrvm_geometry_of(copy)->segments == 3 && lcrvm_geometry_of(copy)->pages == 6 && lcrvm_geometry_of(copy)->words == 128);
+    CHECK(holds(copy, 0, 1, 0, "lazy") && holds(copy, 0, 3, 1535, "\0"));
+    ANSWERS(commit(copy, 0, 3, 1530, "more"), LCRVM_OK);
+    ANSWERS(commit(copy, 0, 1, 1100, "behind"), LCRVM_OK);
+    close_well(copy);
+    copy = opened_as(path, NULL);
+    CHECK(holds(copy, 0, 3, 1530, "more") && holds(copy, 0, 1, 1100, "behind") && holds(copy, 0, 1, 0, "lazy"));
+    close_well(copy);
+}
+
 /* A copy is a store of its own, with what was committed and nothing of what is open, which goes on. */
 static void test_copy(const char *folder)
 {
@@ -1868,20 +1955,21 @@ static void test_copy(const char *folder)
     ANSWERS(commit(store, 0, 1, 0, "lazy"), LCRVM_OK);
     ANSWERS(lcrvm_begin(store, 0, &thread, second, 1, NULL, 0, 0), LCRVM_OK);
     ANSWERS(lcrvm_put(store, 0, thread, 2, 0, "open", 4), LCRVM_OK);
-    ANSWERS(lcrvm_copy(store, path), LCRVM_OK);
+    ANSWERS(lcrvm_copy(store, path, NULL), LCRVM_OK);
     CHECK(standing(path) == 4 && descriptors() == before);
     copy = opened_as(path, NULL);
     CHECK(holds(copy, 0, 1, 0, "lazy") && holds(copy, 0, 2, 0, "\0\0"));
     ANSWERS(commit(copy, 0, 1, 0, "other"), LCRVM_OK);
-    ANSWERS(lcrvm_copy(store, path), LCRVM_EXISTS);
+    ANSWERS(lcrvm_copy(store, path, NULL), LCRVM_EXISTS);
     CHECK(strcmp(lcrvm_fault_of(store)->text, "lcrvm.store") == 0);
-    ANSWERS(lcrvm_copy(store, folder), LCRVM_EXISTS);
+    ANSWERS(lcrvm_copy(store, folder, NULL), LCRVM_EXISTS);
     close_well(copy);
-    ANSWERS(lcrvm_copy(store, ""), LCRVM_DEVICE_FAULT);
+    ANSWERS(lcrvm_copy(store, "", NULL), LCRVM_DEVICE_FAULT);
     CHECK(strcmp(lcrvm_fault_of(store)->text, "the path is empty") == 0);
-    ANSWERS(lcrvm_copy(store, below(folder, "none/below")), LCRVM_DEVICE_FAULT);
-    ANSWERS(lcrvm_copy(store, below(folder, "log0")), LCRVM_DEVICE_FAULT);
+    ANSWERS(lcrvm_copy(store, below(folder, "none/below"), NULL), LCRVM_DEVICE_FAULT);
+    ANSWERS(lcrvm_copy(store, below(folder, "log0"), NULL), LCRVM_DEVICE_FAULT);
     CHECK(is_of(lcrvm_fault_of(store), "/log0", ENOTDIR));
+    copies_larger(store, folder);
     /* The store goes on. */
     ANSWERS(lcrvm_commit(store, 0, &thread, true, NULL), LCRVM_OK);
     CHECK(holds(store, 0, 2, 0, "open") && holds(store, 0, 1, 0, "lazy"));
@@ -1907,7 +1995,7 @@ static void test_copy_that_is_cut(const char *folder)
         if (child == 0) {
             store = opened(folder);
             ending = made + call;
-            lcrvm_copy(store, path);
+            lcrvm_copy(store, path, NULL);
             _exit(1);
         }
         exits(child, 0);
@@ -2071,7 +2159,7 @@ static void test_few_descriptors(const char *folder)
     status = LCRVM_DEVICE_FAULT;
     for (count = 0; status != LCRVM_OK && count < 20; count++) {
         leave_descriptors(count);
-        status = lcrvm_copy(store, copy);
+        status = lcrvm_copy(store, copy, NULL);
         let_descriptors(true);
         CHECK(status == LCRVM_OK || (status == LCRVM_DEVICE_FAULT && standing(copy) == -1));
     }
@@ -2143,7 +2231,8 @@ static const struct {
     {"full_with_another", test_full_where_another_has_ranges},
     {"full_and_refused", test_full_where_the_truncation_is_refused},
     {"full_and_long", test_full_where_it_does_not_help},
-    {"uncommitted", test_uncommitted},
+    {"truncates_beside_ranges", test_truncates_beside_ranges},
+    {"in_place", test_in_place},
     {"tokens", test_pages_go_with_tokens},
     {"syncs", test_syncs_of_a_truncation},
     {"trimmed", test_trimmed},
@@ -2217,7 +2306,7 @@ static int closed(const char *folder)
     ANSWERS(lcrvm_flush(store, 0, NULL), LCRVM_OK);
     print_to_all();
     beside(folder, "copy", copy);
-    ANSWERS(lcrvm_copy(store, copy), LCRVM_OK);
+    ANSWERS(lcrvm_copy(store, copy, NULL), LCRVM_OK);
     print_to_all();
     close_well(store);
     mark_fault(folder);
@@ -2299,7 +2388,7 @@ static void work_on(struct lcrvm_store *store, const char *path)
     for (uint32_t number = 0; number < 12; number++)
         commit_all(store, number);
     DONE(lcrvm_flush(store, 1, &records));
-    DONE(lcrvm_copy(store, path));
+    DONE(lcrvm_copy(store, path, NULL));
     DONE(lcrvm_deliver(store, 1, 3, 1, 0, &held));
     DONE(lcrvm_deliver(store, 1, 2, 1, 0, &applied));
     CHECK(held.delivery == LCRVM_HELD_BACK && applied.delivery == LCRVM_APPLIED && applied.applied == 2);
@@ -2364,7 +2453,7 @@ static int copies(const char *folder, const char *number)
     ANSWERS(commit(store, 0, 1, 0, "lazy"), LCRVM_OK);
     before = made;
     failing = made + strtol(number, NULL, 10);
-    status = lcrvm_copy(store, path);
+    status = lcrvm_copy(store, path, NULL);
     if (made < failing) {
         /* A flush, a write and a sync of each of four files, and the syncs of two folders. */
         CHECK(made - before == 4 + 4 * 2 + 2);

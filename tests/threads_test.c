@@ -968,7 +968,7 @@ static void call_in_child(struct lcrvm_store *store, const char *folder)
     ANSWERS(lcrvm_leave(store, 0, 1), LCRVM_FORKED);
     ANSWERS(lcrvm_arrive(store, 0, 1), LCRVM_FORKED);
     ANSWERS(lcrvm_deliver(store, 0, 1, 1, 0, &delivered), LCRVM_FORKED);
-    ANSWERS(lcrvm_copy(store, folder), LCRVM_FORKED);
+    ANSWERS(lcrvm_copy(store, folder, NULL), LCRVM_FORKED);
     CHECK(lcrvm_geometry_of(store)->segments == SEGMENTS);
     CHECK(lcrvm_fault_of(store)->status == LCRVM_FORKED);
     ANSWERS(lcrvm_close(store, &fault), LCRVM_FORKED);
@@ -1005,7 +1005,7 @@ static void *open_and_close(void *argument)
     for (int i = 0; i < 60; i++) {
         struct lcrvm_store *store = opened(path);
 
-        ANSWERS(lcrvm_copy(store, copy), LCRVM_OK);
+        ANSWERS(lcrvm_copy(store, copy, NULL), LCRVM_OK);
         remove_store(copy);
         ANSWERS(lcrvm_close(store, NULL), LCRVM_OK);
     }
@@ -1131,7 +1131,7 @@ static int copies(const char *folder, int count)
     for (int i = 0; i < count && wrong == 0; i++) {
         for (int self = 0; self < RUNNERS; self++)
             acked[self] = atomic_load(&workers[self].acked);
-        if (!ANSWERS(lcrvm_copy(store, path), LCRVM_OK))
+        if (!ANSWERS(lcrvm_copy(store, path, NULL), LCRVM_OK))
             break;
         copy = opened(path);
         equals(sum_of(copy, numbers), 0, "the sum of a copy");

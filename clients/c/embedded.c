@@ -625,38 +625,60 @@ enum lcrvm_status lcrvm_close(struct lcrvm_store *store, struct lcrvm_fault *fau
 
 /* ---- copies */
 
-/* Takes what all areas hold, one after another, after a flush: each is as a stop at this moment would leave it. */
-static enum lcrvm_status take_bytes(struct lcrvm_store *store, uint8_t **bytes)
+/* Looks at the size of a copy, which has as many nodes as the store, and of the rest no less: UNKNOWN, with the number
+   that is outside and its range. */
+static enum lcrvm_status look_at_size(const struct lcrvm_geometry *from, const struct lcrvm_geometry *to)
 {
-    enum lcrvm_status status = LCRVM_OK;
+    const struct bounded_number all[] = {
+        {"nodes", to->nodes, from->nodes, from->nodes},
+        {"threads", to->threads, 1, MOST_THREADS},
+        {"segments", to->segments, from->segments, MOST_SEGMENTS},
+        {"pages", to->pages, from->pages, MOST_PAGES},
+        {"words", to->words, from->words, MOST_WORDS},
+    };
+
+    for (size_t i = 0; i < sizeof all / sizeof all[0]; i++)
+        if (!is_within(all[i].number, all[i].low, all[i].high))
+            return out_of_range("a copy", &all[i]);
+    return LCRVM_OK;
+}
+
+/* Takes what all areas hold, after a flush: each is as a stop at this moment would leave it. They stand one after
+   another as those of a store of this size, with zeros behind what each has. */
+static enum lcrvm_status take_bytes(struct lcrvm_store *store, const struct lcrvm_geometry *size, uint8_t **bytes)
+{
+    enum lcrvm_status status = look_at_size(&store->geometry, size);
 
     for (uint32_t node = 0; node < store->geometry.nodes && status == LCRVM_OK; node++)
         status = flush_shared(store, node);
     if (status != LCRVM_OK)
         return status;
-    *bytes = malloc(bytes_before(&store->geometry, store->areas));
+    *bytes = calloc(1, bytes_before(size, areas_of(size)));
     if (*bytes == NULL)
         return failed(LCRVM_NO_MEMORY, "");
     for (uint32_t place = 0; place < store->areas; place++)
-        lcrvm_session_bytes(&store->session, place, 0, *bytes + bytes_before(&store->geometry, place),
+        lcrvm_session_bytes(&store->session, place, 0, *bytes + bytes_before(size, place),
                             len_of(&store->geometry, place));
     return LCRVM_OK;
 }
 
-enum lcrvm_status lcrvm_copy(struct lcrvm_store *store, const char *folder)
+enum lcrvm_status lcrvm_copy(struct lcrvm_store *store, const char *folder, const struct lcrvm_geometry *geometry)
 {
-    struct lcrvm_geometry geometry;
+    struct lcrvm_geometry size;
     uint8_t *bytes = NULL;
     enum lcrvm_status status;
 
     if (folder == NULL)
         return misused("folder: NULL");
+    if (geometry != NULL && !take_structure(&size, sizeof size, FIRST_GEOMETRY, geometry))
+        return misused("geometry: no size of this structure, or a field that is not known");
     if (!enter(store))
         return not_entered();
-    geometry = store->geometry;
-    status = done(store, take_bytes(store, &bytes));
+    if (geometry == NULL)
+        size = store->geometry;
+    status = done(store, take_bytes(store, &size, &bytes));
     if (status == LCRVM_OK)
-        status = told(make_store(folder, &geometry, bytes, &fault_here));
+        status = told(make_store(folder, &size, bytes, &fault_here));
     free(bytes);
     return status;
 }
@@ -769,6 +791,38 @@ enum lcrvm_status lcrvm_read(struct lcrvm_store *store, uint32_t node, uint32_t 
     if (!enter_work(store, node, transaction, &begun))
         return not_entered();
     status = begun != NULL ? read_in(store, begun, segment, offset, bytes, length)
+                           : refuse_work(store, node, transaction, segment);
+    return worked(store, begun, named(store, status, node, transaction, segment));
+}
+
+enum lcrvm_status lcrvm_bytes(struct lcrvm_store *store, uint32_t node, uint32_t transaction, uint32_t segment,
+                              const void **bytes, size_t *length)
+{
+    struct begun *begun;
+    enum lcrvm_status status;
+
+    if (bytes == NULL)
+        return misused("bytes: NULL");
+    *bytes = NULL;
+    if (!enter_work(store, node, transaction, &begun))
+        return not_entered();
+    status = begun != NULL ? lend_image(store, begun, segment, bytes, length)
+                           : refuse_work(store, node, transaction, segment);
+    return worked(store, begun, named(store, status, node, transaction, segment));
+}
+
+enum lcrvm_status lcrvm_change(struct lcrvm_store *store, uint32_t node, uint32_t transaction, uint32_t segment,
+                               uint32_t offset, uint32_t length, void **bytes)
+{
+    struct begun *begun;
+    enum lcrvm_status status;
+
+    if (bytes == NULL)
+        return misused("bytes: NULL");
+    *bytes = NULL;
+    if (!enter_work(store, node, transaction, &begun))
+        return not_entered();
+    status = begun != NULL ? lend_range(store, begun, segment, offset, length, bytes)
                            : refuse_work(store, node, transaction, segment);
     return worked(store, begun, named(store, status, node, transaction, segment));
 }

@@ -58,22 +58,27 @@ static enum lcrvm_status take_options(const struct lcrvm_options *given, struct 
     return LCRVM_OK;
 }
 
+/* Names a number that is outside of its range. */
+static enum lcrvm_status out_of_range(const char *what, const struct bounded_number *outside)
+{
+    char text[64];
+
+    snprintf(text, sizeof text, "%s %u: %s has %u to %u", outside->name, (unsigned)outside->number, what,
+             (unsigned)outside->low, (unsigned)outside->high);
+    return failed(LCRVM_UNKNOWN, text);
+}
+
 /* Looks at the numbers of the options: UNKNOWN, with the one that is outside and its range. */
 static enum lcrvm_status look_at_numbers(const struct lcrvm_options *options)
 {
     struct lcrvm_geometry size = ordinary;
     struct bounded_number outside;
-    char text[64];
 
     if (options->geometry != NULL)
         size = *options->geometry;
     else
         size.threads = threads_of(options);
-    if (!find_outside(&size, &outside))
-        return LCRVM_OK;
-    snprintf(text, sizeof text, "%s %u: a store has %u to %u", outside.name, (unsigned)outside.number,
-             (unsigned)outside.low, (unsigned)outside.high);
-    return failed(LCRVM_UNKNOWN, text);
+    return find_outside(&size, &outside) ? out_of_range("a store", &outside) : LCRVM_OK;
 }
 
 /* Whether a structure of the caller's, of this size, has room for all fields of the first version. */

@@ -96,6 +96,35 @@ static enum lcrvm_status read_in(const struct lcrvm_store *store, struct begun *
     return refused(&answer);
 }
 
+/* Hands out the image of a segment that the transaction has locked. */
+static enum lcrvm_status lend_image(const struct lcrvm_store *store, struct begun *begun, uint32_t segment,
+                                    const void **bytes, size_t *length)
+{
+    enum lcrvm_status status = read_in(store, begun, segment, 0, NULL, 0);
+    size_t len;
+    const uint8_t *image = image_of(store, segment, &len);
+
+    if (status != LCRVM_OK)
+        return status;
+    *bytes = image;
+    if (length != NULL)
+        *length = len;
+    return LCRVM_OK;
+}
+
+/* Sets a range, and hands out where it stands. */
+static enum lcrvm_status lend_range(const struct lcrvm_store *store, struct begun *begun, uint32_t segment,
+                                    uint32_t offset, uint32_t length, void **bytes)
+{
+    enum lcrvm_status status = set_range_in(store, begun, segment, offset, length);
+    size_t len;
+    uint8_t *image = image_of(store, segment, &len);
+
+    if (status == LCRVM_OK)
+        *bytes = image + offset;
+    return status;
+}
+
 /* Gives the images back what they had before the transaction. */
 static void restore_images(const struct lcrvm_store *store, struct begun *begun)
 {

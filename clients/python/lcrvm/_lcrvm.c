@@ -1075,14 +1075,17 @@ static PyObject *store_deliver(Store *self, PyObject *args, PyObject *named)
 
 static PyObject *store_copy(Store *self, PyObject *args, PyObject *named)
 {
-    static char *names[] = {"path", NULL};
+    static char *names[] = {"path", "geometry", NULL};
     struct lcrvm_fault why = {.size = sizeof why};
-    PyObject *given, *path = NULL, *answer = NULL;
+    struct lcrvm_geometry geometry;
+    PyObject *given, *path = NULL, *size = Py_None, *answer = NULL;
 
-    if (!PyArg_ParseTupleAndKeywords(args, named, "O:copy", names, &given) || !PyUnicode_FSConverter(given, &path))
+    if (!PyArg_ParseTupleAndKeywords(args, named, "O|O:copy", names, &given, &size) ||
+        (size != Py_None && !take_geometry(size, &geometry)) || !PyUnicode_FSConverter(given, &path))
         return NULL;
     if (is_live(self)) {
-        FREELY(self, &why, lcrvm_copy(self->handle, PyBytes_AsString(path)));
+        FREELY(self, &why,
+               lcrvm_copy(self->handle, PyBytes_AsString(path), size != Py_None ? &geometry : NULL));
         answer = none_or_fail(&why);
     }
     Py_DECREF(path);
@@ -1224,8 +1227,10 @@ static PyMethodDef store_calls[] = {
          "truncate($self, /, node=0)\n--\n\nWrites the pages and empties the log; returns how often it was emptied.\n\n"
          "A log that is full is emptied by the commit that finds it so."),
     CALL("copy", store_copy, NAMED,
-         "copy($self, /, path)\n--\n\nMakes a store of its own in another folder, with each commit that is done.\n\n"
-         "Transactions may be open, and go on; what they have changed is not in the copy."),
+         "copy($self, /, path, geometry=None)\n--\n\n"
+         "Makes a store of its own in another folder, with each commit that is done.\n\n"
+         "Transactions may be open, and go on; what they have changed is not in the copy. It may be larger: as many\n"
+         "nodes, and no fewer segments, pages and words."),
     CALL("close", store_close, METH_NOARGS,
          "close($self, /)\n--\n\nMakes all commits durable and ends the store. A second time it does nothing.\n\n"
          "What this thread has open is aborted. Where another thread has a transaction it waits, for the timeout of\n"

@@ -13,7 +13,7 @@ extern "C" {
     fn lcrvm_create(folder: *const c_char, options: *const Options, fault: *mut Fault) -> c_int;
     fn lcrvm_open(folder: *const c_char, options: *const Options, store: *mut Handle, fault: *mut Fault) -> c_int;
     fn lcrvm_close(store: Handle, fault: *mut Fault) -> c_int;
-    fn lcrvm_copy(store: Handle, folder: *const c_char) -> c_int;
+    fn lcrvm_copy(store: Handle, folder: *const c_char, geometry: *const u32) -> c_int;
     fn lcrvm_begin(store: Handle, node: u32, thread: *mut u32, writing: *const u32, writing_count: usize,
         reading: *const u32, reading_count: usize, milliseconds: u32) -> c_int;
     fn lcrvm_put(store: Handle, node: u32, thread: u32, segment: u32, at: u32, bytes: *const u8, length: u32) -> c_int;
@@ -61,7 +61,7 @@ impl Store {
         Ok(Transaction { store: self, thread, of_its_thread: PhantomData })
     }
     pub fn flush(&self) -> Result { check(unsafe { lcrvm_flush(self.at, 0, ptr::null_mut()) }) }
-    pub fn copy(&self, to: &str) -> Result { check(unsafe { lcrvm_copy(self.at, name(to)?.as_ptr()) }) }
+    pub fn copy(&self, to: &str) -> Result { check(unsafe { lcrvm_copy(self.at, name(to)?.as_ptr(), ptr::null()) }) }
     pub fn close(self) -> Result { check(unsafe { lcrvm_close(ManuallyDrop::new(self).at, ptr::null_mut()) }) }
 }
 impl Drop for Store { fn drop(&mut self) { unsafe { lcrvm_close(self.at, ptr::null_mut()) }; } }
