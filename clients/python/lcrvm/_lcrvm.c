@@ -1165,8 +1165,9 @@ static PyObject *not_made(PyTypeObject *type, PyObject *args, PyObject *named)
 static PyMethodDef transaction_calls[] = {
     CALL("begin", transaction_begin, METH_NOARGS,
          "begin($self, /)\n--\n\nLocks the segments, and returns the transaction. `with` does so by itself.\n\n"
-         "Where another thread has one of them it waits, for the timeout at most, and then raises Busy. It does so at\n"
-         "once where this thread would wait for itself. After its end a transaction may begin again."),
+         "If another thread has one of them it waits, for the timeout at most, and then raises Busy. It raises Busy\n"
+         "at once if this thread would wait for itself. A signal's handler runs while it waits, at most a second late.\n"
+         "After its end a transaction may begin again."),
     CALL("commit", transaction_commit, METH_NOARGS,
          "commit($self, /)\n--\n\nCommits, durably unless it was made with durable=False.\n\n"
          "Returns the Commit, or None where nothing was changed. Where it raises, the transaction is aborted;\n"
@@ -1199,8 +1200,11 @@ static PyMemberDef transaction_members[] = {
 
 static PyType_Slot transaction_slots[] = {
     {Py_tp_doc, "Changes that are committed together, or not at all; made by Store.transaction.\n\n"
-                "In a `with` it begins, and it is committed at the end, or aborted where the block raises.\n"
-                "t[segment, start:stop] are bytes, which may be assigned. It is used by one thread at a time."},
+                "In a `with` it begins, and it is committed at the end, or aborted if the block raises.\n"
+                "t[segment, start:stop] are bytes, which may be assigned. One thread at a time uses it.\n\n"
+                "A KeyboardInterrupt leaves each call done or not done, never half: `state` says which. In Python\n"
+                "3.8 and 3.9 it may leave a `with` without a call of its end. Then the transaction is open until it\n"
+                "is aborted or dropped."},
     {Py_tp_new, not_made},
     {Py_tp_dealloc, transaction_free},
     {Py_tp_repr, transaction_repr},
@@ -1215,9 +1219,11 @@ static PyMethodDef store_calls[] = {
     CALL("transaction", store_transaction, NAMED,
          "transaction($self, /, *writing, reading=(), durable=None, timeout=None, node=0)\n--\n\n"
          "Makes a transaction that locks segments for writing, and others for reading alone.\n\n"
-         "durable=False says that the commit need not be on the disk yet: a flush, or the close, sees to that. A\n"
-         "durable one has also all that it read there. timeout is how many seconds the begin may wait. Both are by\n"
-         "default as the store was opened, but a transaction that only reads is durable only where that is said."),
+         "timeout is how many seconds the begin may wait. A durable commit is on the disk when it is answered, with\n"
+         "all that it read. With durable=False it is in memory: the next durable commit, a flush, the close, or the\n"
+         "interpreter's end makes it durable, and a kill or os._exit before that loses it. Both are by default as the\n"
+         "store was opened. But a transaction that only reads is durable only if durable=True says so: what it saw\n"
+         "may be lost."),
     CALL("flush", store_flush, NAMED,
          "flush($self, /, node=0)\n--\n\nMakes all commits durable; returns how many there were since the opening."),
     CALL("truncate", store_truncate, NAMED,
@@ -1256,7 +1262,9 @@ static PyMemberDef store_members[] = {
     {"__weaklistoffset__", T_PYSSIZET, offsetof(Store, weak), READONLY, NULL}, {NULL, 0, 0, 0, NULL}};
 
 static PyType_Slot store_slots[] = {
-    {Py_tp_doc, "Store(path, geometry=None, durable=True, timeout=5.0)\n--\n\nA store that is open; see lcrvm.open."},
+    {Py_tp_doc, "Store(path, geometry=None, durable=True, timeout=5.0)\n--\n\nA store that is open; see lcrvm.open.\n\n"
+                "If nobody closes it, it is closed when it is dropped, or when the interpreter ends. A forked child\n"
+                "cannot use the stores of its parent."},
     {Py_tp_new, store_new},
     {Py_tp_dealloc, store_free},
     {Py_tp_repr, store_repr},

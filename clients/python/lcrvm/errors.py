@@ -1,4 +1,11 @@
-"""Why a call did nothing: a class for each answer of the library, with the fields that it has."""
+"""The exceptions: one class for each answer of the library, with its fields.
+
+Each is an Error. After a Refused the store goes on as before. Some are also
+exceptions of Python: Exists is a FileExistsError, NoStore a FileNotFoundError,
+StoreInUse a BlockingIOError, DeviceFault an OSError, NoMemory a MemoryError,
+and Closed a ValueError. A number that is negative or has more than 32 bits is
+a ValueError.
+"""
 from __future__ import annotations
 
 import errno
@@ -37,11 +44,10 @@ class Error(Exception):
         super().__init__(f"{text}: {self._sentence()}" if text else self._sentence())
         number = values.get("error") or _system.get(self.code)
         if isinstance(self, OSError) and number:
-            name, colon, _ = text.partition(": ")
-            # (of OSError, whose types they keep)
+            # OSError declares these three with types of its own.
             setattr(self, "errno", number)
             setattr(self, "strerror", os.strerror(number))
-            setattr(self, "filename", name if colon else None)
+            setattr(self, "filename", _file_of(text, os.strerror(number)))
 
     def __str__(self) -> str:
         return str(self.args[0])
@@ -51,6 +57,15 @@ class Error(Exception):
 
     def __reduce__(self) -> Tuple[Any, ...]:
         return _made, (type(self), self.text, self.values)
+
+
+def _file_of(text: str, reason: str) -> Optional[str]:
+    """Returns the file that the first line of `text` names, before `reason` or before the first colon."""
+    line = text.partition("\n")[0]
+    end = line.find(f": {reason}")
+    if end < 0:
+        end = line.find(": ")
+    return line[:end] if end > 0 else None
 
 
 def _made(kind: Type[Error], text: str, values: Dict[str, Optional[int]]) -> Error:
