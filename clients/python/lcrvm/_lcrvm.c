@@ -1166,7 +1166,7 @@ static PyMethodDef transaction_calls[] = {
     CALL("begin", transaction_begin, METH_NOARGS,
          "begin($self, /)\n--\n\nLocks the segments, and returns the transaction. `with` does so by itself.\n\n"
          "If another thread has one of them it waits, for the timeout at most, and then raises Busy. It raises Busy\n"
-         "at once if this thread would wait for itself. A signal's handler runs while it waits, at most a second late.\n"
+         "at once if this thread would wait for itself. A signal's handler runs meanwhile, at most a second late.\n"
          "After its end a transaction may begin again."),
     CALL("commit", transaction_commit, METH_NOARGS,
          "commit($self, /)\n--\n\nCommits, durably unless it was made with durable=False.\n\n"
