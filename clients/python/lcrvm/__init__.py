@@ -31,7 +31,7 @@ Path = Union[str, bytes, "os.PathLike[str]", "os.PathLike[bytes]"]
 
 
 class Geometry(NamedTuple):
-    """How large a store is.
+    """The size of a store.
 
     Segments are 1 to 16, pages of a segment 1 to 1024 of 256 bytes each, words of a log 64 to 4096 of 8 bytes each,
     and nodes 1 to 8.
@@ -44,19 +44,19 @@ class Geometry(NamedTuple):
 
     @property
     def segment_bytes(self) -> int:
-        """How many bytes a segment has."""
+        """The bytes of a segment."""
         return 256 * self.pages
 
 
 class Commit(NamedTuple):
-    """Where a commit's record stands in its node's log, and how long it is, both in words of 8 bytes."""
+    """The place of a commit's record in its node's log, and its length, both in words of 8 bytes."""
 
     place: int
     words: int
 
 
 class Delivery(enum.Enum):
-    """What became of a record that was delivered."""
+    """The outcome of a delivery."""
 
     APPLIED = 0
     HELD_BACK = 1
@@ -64,14 +64,14 @@ class Delivery(enum.Enum):
 
 
 class Delivered(NamedTuple):
-    """What became of a record, and where it was applied the number up to which its segment is."""
+    """The outcome of a delivery; if the record was applied, also the number of its segment then."""
 
     delivery: Delivery
     applied: Optional[int]
 
 
 class Stats(NamedTuple):
-    """What a node has done since the store was opened.
+    """The counts of a node since the store was opened.
 
     `open` transactions and `log_words`, the words of its log that records have, are as they are now. `flushed` is how
     many records the `flushes` made durable: several commits share one. `waits` counts the begins that waited for other
