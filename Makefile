@@ -5,12 +5,13 @@
 #   make install     with PREFIX=/usr/local, DESTDIR, and BINDIR, LIBDIR, INCLUDEDIR, MANDIR, DOCDIR, COMPLETIONDIR
 #   make install-strip   the same, without the symbols of the program and of the shared library
 #   make uninstall   takes away what install has put there
-#   make python      the Python package with the library within, as a wheel in build/wheel/
+#   make python      the Python package with the library and the program within, as a wheel in build/wheel/
 #   make dist        build/lcrvm-VERSION.tar.gz, from which all of it is installed without the kit
 #   make clean
 #
 # CC, CPPFLAGS, CFLAGS and LDFLAGS are as ever. PROGRAM, STORE and HEAP name the program, the archive of the store and
-# the kit's heap where they are others. PROVED is the folder of what `make prove` has kept.
+# the kit's heap where they are others. PROVED is the folder of what `make prove` has kept. PROJECT_URL is the address
+# of these files, for the metadata of the wheel.
 
 VERSION := $(shell sed -n 's/^__version__ = "\(.*\)"$$/\1/p' clients/python/lcrvm/__init__.py)
 $(if $(VERSION),,$(error clients/python/lcrvm/__init__.py has no __version__))
@@ -101,8 +102,10 @@ modules = $(wildcard $(package)/*.py $(package)/*.toml $(addprefix $(package)/lc
 .PHONY: python
 python: build/wheel.made
 
-build/wheel.made: build/$(library) $(modules) include/lcrvm.h LICENSE-MIT LICENSE-APACHE
+build/wheel.made: build/lcrvm build/$(library) $(modules) include/lcrvm.h README.md LICENSE-MIT LICENSE-APACHE
 	$(INSTALL) -m 644 build/$(library) $(package)/lcrvm/$(soname)
+	$(INSTALL) -d $(package)/scripts
+	$(INSTALL) -m 755 build/lcrvm $(package)/scripts/lcrvm
 	rm -rf build/wheel && mkdir build/wheel
 	cd $(package) && CC='$(CC)' CFLAGS='$(CFLAGS)' PYTHONDONTWRITEBYTECODE=1 \
 	    $(PYTHON) -c 'import build_backend; build_backend.build_wheel("../../build/wheel")'
@@ -115,4 +118,4 @@ dist: build/lcrvm build/$(library) build/liblcrvm.a build/wheel.made
 
 .PHONY: clean
 clean:
-	rm -rf build $(package)/lcrvm/*.so $(package)/lcrvm/*.so.*
+	rm -rf build $(package)/scripts $(package)/lcrvm/*.so $(package)/lcrvm/*.so.*

@@ -17,8 +17,8 @@ says:
     python    A program, which prints what its comments `# prints TEXT` say.
     c         A program, compiled by `cc`, without a warning, and with what pkg-config says. It prints what its comments
               `/* prints TEXT */` say.
-    rust      Rattle: lines that stand one after another in a file of examples/rattle/NAME. Each file NAME/*.rt.txt is a
-              block of docs/GUIDE.md. Whether they are proved is not looked at.
+    rust      Rattle: lines that stand one after another in a file of examples/rattle/NAME. Each file NAME/*.rt.txt has a
+              block in docs/GUIDE.md. Whether they are proved is not looked at.
     sh        Commands that want the kit, root or a network: each is a line of ELSEWHERE, which says what runs it.
     text      No code: a drawing.
 
@@ -240,11 +240,13 @@ def rattle_programs():
     return {it: it.read_text(encoding="utf-8").splitlines() for it in sorted(PROGRAMS.glob("*/*.rt.txt"))}
 
 
+def has_lines(program, lines):
+    return any(program[at : at + len(lines)] == lines for at in range(len(program) - len(lines) + 1))
+
+
 def look_at_rattle(first, lines):
-    for program in rattle_programs().values():
-        if any(program[at : at + len(lines)] == lines for at in range(len(program) - len(lines) + 1)):
-            return
-    raise Failure(first, "these lines stand in no file of examples/rattle, one after another")
+    if not any(has_lines(program, lines) for program in rattle_programs().values()):
+        raise Failure(first, "these lines stand in no file of examples/rattle, one after another")
 
 
 def look_at_commands(first, lines, used):
@@ -330,9 +332,9 @@ def main(work, prefix, python, *documents):
         failures.append(f"tests/guide.py: in CONTROL the lines {found} are found, and not {CONTROL_LINES}")
     if not documents:
         guide = (TOP / "docs/GUIDE.md").read_text(encoding="utf-8")
-        whole = [lines for tag, _, lines in blocks_of(guide) if tag == "rust"]
-        failures += [f"{name.relative_to(TOP)}:1: it is no block of docs/GUIDE.md"
-                     for name, program in rattle_programs().items() if program not in whole]
+        shown = [lines for tag, _, lines in blocks_of(guide) if tag == "rust"]
+        failures += [f"{name.relative_to(TOP)}:1: docs/GUIDE.md shows nothing of it"
+                     for name, program in rattle_programs().items() if not any(has_lines(program, it) for it in shown)]
         failures += [f"tests/guide.py: no document has this line of ELSEWHERE: {it}"
                      for it in sorted(set(ELSEWHERE) - blocks.used)]
     for it in failures:

@@ -30,7 +30,7 @@ make -s -C "$work/top" install PROGRAM="$program" STORE="$library" HEAP="$heap" 
 
 python=$work/package/environment/bin/python
 status=0
-HEAP="$heap" "$top/tests/python_package.sh" "$work/package" "$library" > "$work/said" 2>&1 || status=$?
+HEAP="$heap" LCRVM="$program" "$top/tests/python_package.sh" "$work/package" "$library" > "$work/said" 2>&1 || status=$?
 [ $status -ne 77 ] || { cat "$work/said"; python=-; }
 [ $status -eq 0 ] || [ $status -eq 77 ] || { cat "$work/said"; echo '0 passed, 1 failed'; exit 1; }
 python3 "$top/tests/guide.py" "$work/blocks" "$work/prefix" "$python"

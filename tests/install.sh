@@ -5,6 +5,7 @@
 #   - the files that install puts down, and that uninstall takes away;
 #   - a C program, that of lcrvm(3), by pkg-config, shared and static;
 #   - the manual pages, and the completion for bash, against the header and what the program says of itself;
+#   - the wheel of `make python`: its tag, its metadata, the program within, and that there is no source distribution;
 #   - the archive of `make dist`, from which all is installed without the kit, and its PROOF.
 #
 # usage: tests/install.sh [PROGRAM [LIBRARY [HEAP]]]
@@ -41,10 +42,10 @@ is_there() {
 }
 
 mkdir "$work/top" "$work/proved"
-(cd "$top" && cp -r Makefile packaging clients include man completion LICENSE-* CHANGELOG.md "$work/top")
+(cd "$top" && cp -r Makefile packaging clients include man completion LICENSE-* README.md CHANGELOG.md "$work/top")
 mkdir "$work/top/docs"
 cp "$top/docs/GUIDE.md" "$work/top/docs"
-rm -f "$work"/top/clients/python/lcrvm/*.so "$work"/top/clients/python/lcrvm/*.so.*
+rm -rf "$work"/top/clients/python/scripts "$work"/top/clients/python/lcrvm/*.so "$work"/top/clients/python/lcrvm/*.so.*
 [ ! -e "$top/.git" ] || export GIT_DIR="$(cd "$top" && git rev-parse --absolute-git-dir)"
 cd "$work/top"
 version=$(sed -n 's/^__version__ = "\(.*\)"$/\1/p' clients/python/lcrvm/__init__.py)
@@ -256,6 +257,31 @@ END
     attempt 'the completion as bash has it' bash -c 'source completion/lcrvm.bash && complete -p lcrvm'
 fi
 
+# ---- The wheel. Its tag names the newest version of glibc that a binary within wants.
+
+headers="import os, sys, sysconfig; sys.exit(not os.path.exists(sysconfig.get_paths()['include'] + '/Python.h'))"
+if ! python3 -c "$headers"; then
+    echo 'skipped: the wheel: no headers of Python'
+else
+    attempt 'make python' build python
+    mkdir "$work/wheel"
+    attempt 'what is in the wheel' python3 -m zipfile -e build/wheel/*.whl "$work/wheel"
+    find "$work/wheel" -name '*.so*' -o -path '*/scripts/*' | xargs readelf -VW > "$work/elf"
+    newest=$(grep -o 'GLIBC_2\.[0-9]*' "$work/elf" | cut -d . -f 2 | sort -n | tail -n 1)
+    tag=cp38-abi3-manylinux_2_${newest}_$(uname -m)
+    attempt "the tag of the wheel, for glibc 2.$newest" test -f "build/wheel/lcrvm-$version-$tag.whl"
+    attempt 'the program of the wheel' cmp "$program" "$work/wheel/lcrvm-$version.data/scripts/lcrvm"
+    backend() {
+        (cd clients/python && python3 -c "import build_backend; $1")
+    }
+    PROJECT_URL=https://example.org/lcrvm/ backend 'print(build_backend._metadata().decode())' > "$work/metadata"
+    for line in 'Project-URL: Source, https://example.org/lcrvm$' '](https://example.org/lcrvm/docs/GUIDE.md)'; do
+        attempt "$line in the metadata" grep -q "$line" "$work/metadata"
+    done
+    ! backend 'build_backend.build_sdist(".")' > "$work/why" 2>&1 || fails 'a source distribution is made'
+    attempt 'why none is made' grep -q 'UnsupportedOperation: there is no source distribution' "$work/why"
+fi
+
 # ---- The archive of all.
 
 for crate in "lcrvm $program" "lc_c $library"; do
@@ -269,7 +295,6 @@ for crate in "lcrvm $program" "lc_c $library"; do
     } > "$work/proved/$crate"
 done
 archive=build/lcrvm-$version.tar.gz
-headers="import os, sys, sysconfig; sys.exit(not os.path.exists(sysconfig.get_paths()['include'] + '/Python.h'))"
 if ! python3 -c "$headers"; then
     echo 'skipped: the archive of make dist: no headers of Python'
 else
@@ -312,7 +337,12 @@ if [ -f $archive ]; then
 import sys, lcrvm
 from importlib.metadata import files, metadata
 assert lcrvm.__version__ == sys.argv[2], lcrvm.__version__
-assert metadata("lcrvm")["License-Expression"] == "MIT OR Apache-2.0", metadata("lcrvm")
+said = metadata("lcrvm")
+text = said.get_payload() or said["Description"]
+assert said["License-Expression"] == "MIT OR Apache-2.0", said
+assert said["Description-Content-Type"] == "text/markdown" and text.startswith("# lcrvm\n"), text[:200]
+assert "](docs/" not in text and "](LICENSE" not in text, "a link that leads nowhere"
+assert {"Operating System :: POSIX :: Linux", "Typing :: Typed"} <= set(said.get_all("Classifier")), said
 assert {"LICENSE-MIT", "LICENSE-APACHE"} <= {it.name for it in files("lcrvm")}, files("lcrvm")
 with lcrvm.open(sys.argv[1], create=True) as store:
     with store.transaction(1) as t:
@@ -322,6 +352,10 @@ with lcrvm.open(sys.argv[1]) as store, store.transaction(reading=[1]) as t:
 END
             attempt 'the installed package' "$work/venv/bin/python" -I "$work/package.py" "$work/by_python" "$version"
             attempt 'the store of the package, by the program' "$work/other/bin/lcrvm" check "$work/by_python"
+            attempt 'the program of the package' test "$("$work/venv/bin/lcrvm" --version)" = "lcrvm $version"
+            attempt 'its store, by that program' "$work/venv/bin/lcrvm" check "$work/by_python"
+            attempt 'pip uninstall' "$work/venv/bin/pip" uninstall -q -y lcrvm
+            attempt 'no program after it' test ! -e "$work/venv/bin/lcrvm"
         fi
         attempt 'make uninstall, from the archive' make -s uninstall PREFIX="$work/other"
         files_of "$work/other" > "$work/found"

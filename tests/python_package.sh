@@ -3,12 +3,15 @@
 #
 # usage: tests/python_package.sh FOLDER [LC_C]     (default: $LC_C, or crates/lc_c/out/liblc_c.a)
 #
-# It works on a copy below FOLDER, so that scripts may do this side by side. Where a tool is missing it says so and ends with status 77.
+# It works on a copy below FOLDER, so that scripts may do this side by side. The program within is $LCRVM, or
+# crates/lcrvm/out/lcrvm, or a stand-in if none is built. If a tool is missing it says so and ends with status 77.
 set -eu
 . "$(dirname "$0")/common.sh"
 
 folder=$1
 store=$(whole "${2:-${LC_C:-$top/crates/lc_c/out/liblc_c.a}}")
+program=$(whole "${LCRVM:-$top/crates/lcrvm/out/lcrvm}")
+[ -f "$program" ] || program=/bin/sh
 
 lacks() {
     echo "skipped: python package: $1"
@@ -23,9 +26,9 @@ sys.exit(not os.path.exists(os.path.join(sysconfig.get_paths()["include"], "Pyth
 
 mkdir -p "$folder/tree"
 cd "$top"
-cp -R Makefile packaging include clients LICENSE-* "$folder/tree"
+cp -R Makefile packaging include clients README.md LICENSE-* "$folder/tree"
 cd "$folder"
-make -s -C tree python STORE="$store"
+make -s -C tree python STORE="$store" PROGRAM="$program"
 python3 -m venv environment
 environment/bin/pip --disable-pip-version-check uninstall -q -y setuptools 2> pip.err || true
 environment/bin/pip --disable-pip-version-check install -q --no-index ./tree/clients/python

@@ -3,10 +3,10 @@
 
 usage: python3 -I clients/python/bench.py [FOLDER]     (default: a new folder below TMPDIR)
 
-Both do the same work in turn, in rounds, and what is printed is the median of the rounds. Each commit changes its
-bytes, since sqlite3 writes none that are as before. The time is that of the processor, of Python and library together;
-where it says wall, it is that of the clock. sqlite3 has a log of its own (WAL), and syncs nothing but where commits are
-durable: FOLDER says on which disk. -I has Python take the package that is installed, not the sources beside this file.
+Both do the same work in turn, in rounds, and the table has the medians of the rounds. Each commit changes its bytes,
+since sqlite3 writes none that are as before. The time is that of the processor, of Python and library together; a line
+that says wall has that of the clock. sqlite3 has a log of its own (WAL), and syncs nothing unless commits are durable:
+FOLDER says on which disk. -I has Python take the package that is installed, not the sources beside this file.
 """
 from __future__ import annotations
 
@@ -33,7 +33,7 @@ Work = Callable[[], object]
 
 
 def seconds_of(work: Work, count: int, clock: Clock) -> float:
-    """How long each of so many takes."""
+    """Returns how long each of `count` calls of `work` takes, in seconds of `clock`."""
     begun = clock()
     for _ in range(count):
         work()
@@ -41,7 +41,7 @@ def seconds_of(work: Work, count: int, clock: Clock) -> float:
 
 
 def side_by_side(ours: Work, theirs: Work, count: int, clock: Clock) -> Tuple[float, float]:
-    """The medians of rounds in turn; the first round is not counted."""
+    """Returns the medians of rounds of `ours` and `theirs` in turn, without the first round."""
     rounds = [(seconds_of(ours, count, clock), seconds_of(theirs, count, clock)) for _ in range(ROUNDS + 1)][1:]
     return statistics.median(our for our, _ in rounds), statistics.median(their for _, their in rounds)
 
@@ -118,7 +118,7 @@ def long_commits(store: lcrvm.Store) -> None:
 
 
 def openings(path: str) -> None:
-    """What a reopening takes after commits and a clean close."""
+    """Times a reopening after commits and a clean close."""
     times: List[float] = []
     for _ in range(OPENINGS):
         with lcrvm.open(path) as store:

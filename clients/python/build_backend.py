@@ -1,6 +1,7 @@
 """Builds the wheel by the standard library and a C compiler alone, so that `pip install .` fetches nothing (PEP 517).
 
-The extension is compiled by $CC, or cc, for the limited API: one wheel serves each Python from 3.8 on.
+$CC, or cc, compiles the extension for the limited API: one wheel serves each Python from 3.8 on. $PROJECT_URL is the
+address of the repository's files, if they have one: the metadata then link to it.
 """
 from __future__ import annotations
 
@@ -9,6 +10,7 @@ import hashlib
 import os
 import re
 import shlex
+import stat
 import subprocess
 import sys
 import sysconfig
@@ -20,6 +22,7 @@ HERE = os.path.dirname(os.path.abspath(__file__))
 PACKAGE = os.path.join(HERE, "lcrvm")
 TOP = os.path.join(HERE, "..", "..")
 HEADERS = os.path.join(TOP, "include")
+PROGRAM = os.path.join(HERE, "scripts", "lcrvm")
 LIBRARY = "liblcrvm.so.0"
 EXTENSION = "_lcrvm.abi3.so"
 KEPT = (".py", ".pyi", "py.typed", LIBRARY)
@@ -42,25 +45,31 @@ VERSION = _version()
 INFO = f"lcrvm-{VERSION}.dist-info"
 PLATFORM = re.sub("[-.]", "_", sysconfig.get_platform())
 README = os.path.join(TOP, "README.md")
+URL = os.environ.get("PROJECT_URL", "").rstrip("/")
 METADATA = f"""Metadata-Version: 2.4
 Name: lcrvm
 Version: {VERSION}
 Summary: Recoverable virtual memory: transactions on bytes that outlive a crash
 Keywords: transactions,durable,persistent,recovery,storage
 Classifier: Development Status :: 4 - Beta
+Classifier: Environment :: Console
 Classifier: Intended Audience :: Developers
 Classifier: Operating System :: POSIX :: Linux
 Classifier: Programming Language :: C
 Classifier: Programming Language :: Python :: 3
+Classifier: Programming Language :: Python :: 3 :: Only
+Classifier: Programming Language :: Python :: Implementation :: CPython
 Classifier: Topic :: Database
+Classifier: Topic :: Software Development :: Libraries
 Classifier: Typing :: Typed
 License-Expression: MIT OR Apache-2.0
 License-File: LICENSE-MIT
 License-File: LICENSE-APACHE
 Requires-Python: >=3.8
 Description-Content-Type: text/markdown
-
 """
+# A link of the README to a file of the repository.
+LINK = re.compile(r"\[([^][]*)\]\((?![a-z]+:|#)([^)]*)\)")
 
 
 def _need(path: str, what: str) -> None:
@@ -96,21 +105,35 @@ def _extension() -> bytes:
         return _content(path)
 
 
+def _is_binary(path: str) -> bool:
+    return ".so" in path or "/scripts/" in path
+
+
 def _platform(files: Dict[str, bytes]) -> str:
-    """The tag of what the libraries need: the newest version of glibc that they name (PEP 600)."""
-    wanted = [found for path, data in files.items() if ".so" in path
+    """Returns the platform's tag: the newest version of glibc that the binaries among `files` name (PEP 600)."""
+    wanted = [found for path, data in files.items() if _is_binary(path)
               for found in re.findall(rb"GLIBC_2\.(\d+)", data)]
     return f"manylinux_2_{max(map(int, wanted))}_{os.uname().machine}" if wanted else PLATFORM
 
 
+def _metadata() -> bytes:
+    """Returns the metadata with the README, whose links to files go below URL; without a URL they are their text."""
+    _need(README, "the package is built within the repository")
+    links = f"Project-URL: Source, {URL}\nProject-URL: Changes, {URL}/CHANGELOG.md\n" if URL else ""
+    text = LINK.sub(rf"[\1]({URL}/\2)" if URL else r"\1", _content(README).decode())
+    return f"{METADATA}{links}\n{text}".encode()
+
+
 def _pack(folder: str, files: Dict[str, bytes]) -> str:
-    """Writes a wheel, which is the same for the same files."""
+    """Writes a wheel of `files` and the program to `folder`; the same files make the same wheel."""
+    _need(PROGRAM, "`make python` at the top of the repository puts it there")
+    files[f"lcrvm-{VERSION}.data/scripts/lcrvm"] = _content(PROGRAM)
     tag = f"cp38-abi3-{_platform(files)}"
     name, record = f"lcrvm-{VERSION}-{tag}.whl", ""
     for text in LICENSES:
         _need(os.path.join(TOP, text), "the package is built within the repository")
         files[f"{INFO}/licenses/{text}"] = _content(os.path.join(TOP, text))
-    files[f"{INFO}/METADATA"] = METADATA.encode() + (_content(README) if os.path.exists(README) else b"")
+    files[f"{INFO}/METADATA"] = _metadata()
     files[f"{INFO}/WHEEL"] = f"Wheel-Version: 1.0\nGenerator: lcrvm\nRoot-Is-Purelib: false\nTag: {tag}\n".encode()
     for path, data in files.items():
         digest = base64.urlsafe_b64encode(hashlib.sha256(data).digest()).rstrip(b"=").decode()
@@ -119,7 +142,7 @@ def _pack(folder: str, files: Dict[str, bytes]) -> str:
     with zipfile.ZipFile(os.path.join(folder, name), "w") as wheel:
         for path, data in files.items():
             entry = zipfile.ZipInfo(path)
-            entry.external_attr = (0o755 if ".so" in path else 0o644) << 16
+            entry.external_attr = (stat.S_IFREG | (0o755 if _is_binary(path) else 0o644)) << 16
             wheel.writestr(entry, data, zipfile.ZIP_DEFLATED)
     return name
 
@@ -137,8 +160,9 @@ def build_editable(folder: str, config_settings: object = None, metadata_directo
 
 
 class UnsupportedOperation(Exception):
-    """What a front end asks for that cannot be had (PEP 517)."""
+    """Says that a front end asks for a thing that cannot be had (PEP 517)."""
 
 
 def build_sdist(folder: str, config_settings: object = None) -> str:
-    raise UnsupportedOperation("the library within is proved, and built by `make prove` alone: build the wheel")
+    raise UnsupportedOperation("there is no source distribution, since `make prove` alone builds the library within: "
+                               "`make python` at the top of the repository builds the wheel")

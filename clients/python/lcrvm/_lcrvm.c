@@ -1,7 +1,7 @@
-/* Stores and transactions for Python, over liblcrvm. It needs the limited API of Python 3.8 alone.
+/* Stores and transactions for Python, over liblcrvm, by the limited API of Python 3.8 alone.
 
-   What a call has done is written down before the interpreter looks for signals again: so an exception never comes
-   between a begin, a commit or an abort and the record of it. Calls that may wait let other threads run meanwhile. */
+   Each call notes what it has done before the interpreter looks for signals again: so an exception never comes between
+   a begin, a commit or an abort and the note of it. Calls that may wait let other threads run meanwhile. */
 #define Py_LIMITED_API 0x03080000
 #define PY_SSIZE_T_CLEAN
 #include <Python.h>
@@ -32,7 +32,7 @@ typedef struct transaction Transaction;
 
 typedef struct store {
     PyObject_HEAD
-    struct lcrvm_store *handle; /* NULL where it is closed */
+    struct lcrvm_store *handle; /* NULL once it is closed */
     struct lcrvm_geometry geometry;
     unsigned forks;  /* of this process at the opening */
     unsigned inside; /* calls that run while other threads of Python do */
@@ -50,14 +50,14 @@ struct view {
     struct view *next;
     uint32_t segment, offset, length;
     char *bytes;
-    PyObject *array, *pin, *given; /* the pin keeps the bytes where they are, whatever becomes of what was given */
+    PyObject *array, *pin, *given; /* the pin keeps the bytes where they are, whatever becomes of `given` */
 };
 
 struct transaction {
     PyObject_HEAD
     PyObject *weak;
     Store *store;
-    Transaction *next; /* of those that are open */
+    Transaction *next; /* open transaction of the store */
     uint32_t node, number, writing[MOST_SEGMENTS], reading[MOST_SEGMENTS];
     size_t writing_count, reading_count;
     bool durable;
@@ -72,7 +72,7 @@ struct transaction {
 
 static PyObject *make_error, *geometry_type, *commit_type, *delivered_type, *delivery_type, *stats_type;
 static PyObject *transaction_type;
-static Store *stores;  /* those that are open */
+static Store *stores;  /* the open ones */
 static unsigned forks; /* how many forks this process is after */
 
 static void count_fork(void)
@@ -90,7 +90,7 @@ static double now(void)
 
 /* ---- calls */
 
-/* Makes a call while other threads of Python run, and keeps why it did nothing. */
+/* Makes `call` while other threads of Python run, and keeps in `why` why it did nothing. */
 #define FREELY(store, why, call)                       \
     do {                                               \
         PyThreadState *thread_;                        \
@@ -102,7 +102,7 @@ static double now(void)
         (store)->inside--;                             \
     } while (0)
 
-/* The same of a call in memory, which waits for nothing where no other thread is in the store. */
+/* Makes a call in memory likewise, but keeps other threads waiting if none of them is in the store. */
 #define QUICKLY(store, why, call)                      \
     do {                                               \
         if ((store)->inside > 0)                       \
@@ -133,7 +133,7 @@ static PyObject *number_or_none(bool is_number, unsigned long long number)
     return is_number ? PyLong_FromUnsignedLongLong(number) : none();
 }
 
-/* Raises why a call did nothing; `thread` is whose lock it met, or 0. */
+/* Raises why a call did nothing. `thread` is the thread that has the lock, or 0. */
 static PyObject *fail_of(const struct lcrvm_fault *why, unsigned long thread)
 {
     const bool has_area = why->status != LCRVM_OUT_OF_SEGMENT || why->has_area;
@@ -154,7 +154,7 @@ static PyObject *fail(const struct lcrvm_fault *why)
     return fail_of(why, 0);
 }
 
-/* Raises what the library was not asked. */
+/* Raises `status` with `text`, of which the library was not asked. */
 static PyObject *refuse(int status, const char *text)
 {
     struct lcrvm_fault why = {.status = (enum lcrvm_status)status};
@@ -168,7 +168,7 @@ static PyObject *none_or_fail(const struct lcrvm_fault *why)
     return why->status == LCRVM_OK ? none() : fail(why);
 }
 
-/* A named tuple, made by no code of Python, in which a signal could be seen. It takes the values. */
+/* Makes a named tuple of `values`, which it takes. No code of Python runs, in which a signal could be seen. */
 static PyObject *named_tuple(PyObject *type, PyObject *values)
 {
     PyObject *it = NULL;
@@ -253,7 +253,7 @@ static int take_geometry(PyObject *given, void *geometry)
     return is_good;
 }
 
-/* The bytes of any buffer, as they are now. */
+/* Returns the bytes of `data`, any buffer, as they are now. */
 static PyObject *bytes_of(PyObject *data)
 {
     PyObject *view, *bytes;
@@ -277,7 +277,7 @@ static bool is_live(const Store *store)
     return true;
 }
 
-/* One thread at a time is within the calls of a transaction; `leave` ends what `enter` has begun. */
+/* Lets one thread at a time into the calls of a transaction. `leave` lets it out. */
 static bool enter(Transaction *self)
 {
     if (!is_live(self->store))
@@ -300,7 +300,7 @@ static void free_view(struct view *view)
     PyObject *done = PyObject_CallMethod(view->given, "release", NULL);
 
     if (done == NULL)
-        PyErr_Clear(); /* what has been made of it stays, and writes nowhere */
+        PyErr_Clear(); /* a view that was made of it stays, and writes nowhere */
     Py_XDECREF(done);
     Py_DECREF(view->given);
     Py_DECREF(view->pin);
@@ -308,7 +308,7 @@ static void free_view(struct view *view)
     free(view);
 }
 
-/* The transaction is over. Its views are released, so that nobody writes there in vain. */
+/* Ends the transaction in `state`, and releases its views, so that nobody writes there in vain. */
 static void finish(Transaction *self, enum state state)
 {
     Transaction **at = &self->store->open;
@@ -338,7 +338,7 @@ static void give_up(Transaction *self)
     finish(self, ABORTED);
 }
 
-/* Where bytes of a segment, or with no segment any, are those of a view. */
+/* Finds the part of the bytes `from` to `to` that `view` has, if it is of `segment`; segment 0 stands for each. */
 static bool meets(const struct view *view, uint32_t segment, uint64_t from, uint64_t to, uint32_t *low, uint32_t *count)
 {
     const uint64_t end = (uint64_t)view->offset + view->length, high = end < to ? end : to;
@@ -348,7 +348,7 @@ static bool meets(const struct view *view, uint32_t segment, uint64_t from, uint
     return (segment == 0 || segment == view->segment) && *low < high;
 }
 
-/* Writes what the views have of these bytes. */
+/* Writes the part of the bytes `from` to `to` that the views have. */
 static void write_views(Transaction *self, uint32_t segment, uint64_t from, uint64_t to, struct lcrvm_fault *why)
 {
     uint32_t low, count;
@@ -372,8 +372,8 @@ static void try_begin(Transaction *self, double seconds, struct lcrvm_fault *why
                                              self->writing_count, self->reading, self->reading_count, milliseconds));
 }
 
-/* Waits for the locks; false where the handler of a signal has raised, or the store was closed meanwhile. Who looks for
-   signals loses its turn, so it does so ever less often. */
+/* Waits for the locks; false if a signal's handler has raised, or if the store was closed meanwhile. A thread that
+   looks for signals loses its turn, so it looks ever less often. */
 static bool begin_waiting(Transaction *self, struct lcrvm_fault *why)
 {
     const bool is_main = syscall(SYS_gettid) == getpid();
@@ -385,7 +385,7 @@ static bool begin_waiting(Transaction *self, struct lcrvm_fault *why)
         const double left = until - begun, wait = left < most ? left : most;
 
         try_begin(self, wait, why);
-        if (why->status != LCRVM_BUSY || now() - begun < wait) /* so early: it would wait for itself */
+        if (why->status != LCRVM_BUSY || now() - begun < wait) /* told early: it would wait for itself */
             return true;
         if (PyErr_CheckSignals() != 0 || !is_live(self->store))
             return false;
@@ -394,7 +394,7 @@ static bool begin_waiting(Transaction *self, struct lcrvm_fault *why)
     return true;
 }
 
-/* Who has a segment that is busy, or 0. */
+/* Returns the thread that has a segment, or 0. */
 static unsigned long holder_of(const Store *store, uint64_t segment)
 {
     for (const Transaction *it = store->open; it != NULL; it = it->next) {
@@ -429,13 +429,13 @@ static bool begin(Transaction *self)
     self->state = OPEN;
     self->next = store->open;
     store->open = self;
-    self->cut = store->ending; /* since it waited */
+    self->cut = store->ending; /* the end began while this thread waited */
     if (self->cut)
         give_up(self);
     return !self->cut || is_live(store);
 }
 
-/* Commits; where that is refused the transaction is aborted. */
+/* Commits. If that is refused it aborts the transaction. */
 static bool commit(Transaction *self)
 {
     struct lcrvm_fault why;
@@ -521,7 +521,7 @@ static PyObject *read_bytes(Transaction *self, uint32_t segment, uint32_t offset
     return bytes;
 }
 
-/* Sets the range of these bytes and writes them, here and in the views. It takes the bytes, which may be NULL. */
+/* Sets the range of `bytes` and writes them, here and in the views. It takes `bytes`, which may be NULL. */
 static bool write_bytes(Transaction *self, uint32_t segment, uint32_t offset, PyObject *bytes)
 {
     struct lcrvm_fault why = {.status = LCRVM_OUT_OF_SEGMENT};
@@ -541,7 +541,7 @@ static bool write_bytes(Transaction *self, uint32_t segment, uint32_t offset, Py
     return leave(self, &why);
 }
 
-/* What t[segment, start:stop] is of, as of a sequence of the segment's length. */
+/* Takes the place of t[segment, start:stop], as of a sequence of the segment's length. */
 static bool take_slice(const Transaction *self, PyObject *key, uint32_t *segment, uint32_t *offset, uint32_t *length)
 {
     Py_ssize_t start, stop, step;
@@ -583,7 +583,7 @@ static int transaction_set(Transaction *self, PyObject *key, PyObject *data)
     return write_bytes(self, segment, offset, bytes) ? 0 : -1;
 }
 
-/* The arguments of a call on a place. */
+/* Takes the arguments of a call on a place. */
 static bool take_place(PyObject *args, PyObject *named, const char *format, uint32_t *segment, uint32_t *offset,
                        uint32_t *length)
 {
@@ -691,7 +691,7 @@ static PyObject *transaction_view(Transaction *self, PyObject *args, PyObject *n
     Py_XDECREF(bytes);
     if (view == NULL)
         return NULL;
-    if (!enter(self)) /* what the collector ran has ended it */
+    if (!enter(self)) /* the collector ran a call that ended it */
         return free_view(view), NULL;
     self->inside = false;
     view->next = self->views;
@@ -794,7 +794,7 @@ static void forget(Store *self)
         *at = self->next;
 }
 
-/* A transaction of which another thread is not done. */
+/* Finds a transaction that another thread has open or is within. */
 static const Transaction *other_open(const Store *self)
 {
     const Transaction *it = self->open;
@@ -804,7 +804,7 @@ static const Transaction *other_open(const Store *self)
     return it;
 }
 
-/* Aborts the transactions that no thread is within a call of. */
+/* Aborts each transaction, unless a thread is within a call of it. */
 static void cut_open(Store *self)
 {
     Transaction *it = self->open;
@@ -822,7 +822,7 @@ static void cut_open(Store *self)
     }
 }
 
-/* Ends a store that no other thread is within. Of a parent's nothing is flushed, and its transactions go on. */
+/* Ends a store that no other thread is within. A parent's store is not flushed, and its transactions go on. */
 static void end(Store *self, struct lcrvm_fault *why)
 {
     struct lcrvm_store *handle = self->handle;
@@ -844,7 +844,7 @@ static void end(Store *self, struct lcrvm_fault *why)
         why->status = LCRVM_OK;
 }
 
-/* Whether another thread is within, or has a transaction. */
+/* True if another thread is within the store, or has a transaction. */
 static bool is_used(const Store *self)
 {
     if (self->forks != forks)
@@ -852,7 +852,7 @@ static bool is_used(const Store *self)
     return self->closing || (self->handle != NULL && (self->inside > 0 || other_open(self) != NULL));
 }
 
-/* Why a store cannot be closed: a transaction of another thread, or its call. */
+/* Raises why a store cannot be closed: a transaction of another thread, or its call. */
 static PyObject *fail_of_others(const Store *self)
 {
     const Transaction *it = other_open(self);
@@ -887,8 +887,8 @@ static PyObject *store_exit(Store *self, PyObject *args)
     return store_close(self, NULL);
 }
 
-/* At the end of the interpreter threads that still run are given some time to leave, and what they have open is
-   aborted. Where one does not leave, what was committed is made durable. */
+/* Ends a store at the end of the interpreter. It gives threads within some time to leave, and aborts what they have
+   open. If one does not leave, it makes durable what was committed. */
 static void end_anyway(Store *self, struct lcrvm_fault *why)
 {
     const double until = now() + last_wait;
@@ -974,7 +974,7 @@ static PyObject *store_transaction(Store *self, PyObject *writing, PyObject *nam
             !take_segments(writing, it->writing, &it->writing_count) ||
             !take_segments(reading, it->reading, &it->reading_count))
             Py_CLEAR(it);
-        else /* what only reads waits for no device, unless that is asked for */
+        else /* a transaction that only reads waits for no device, unless that is asked for */
             it->durable = durable == Py_None ? self->durable && it->writing_count > 0 : PyObject_IsTrue(durable) != 0;
     }
     Py_XDECREF(empty);
@@ -1145,14 +1145,14 @@ static PyObject *create(PyObject *module, PyObject *args)
     return none_or_fail(&why);
 }
 
-/* Takes what is written in Python: how an error is made, and the types of results. */
+/* Takes the function in Python that makes errors, and the types of results. */
 static PyObject *use(PyObject *module, PyObject *args)
 {
     (void)module;
     if (!PyArg_ParseTuple(args, "OOOOOO:use", &make_error, &geometry_type, &commit_type, &delivered_type,
                           &delivery_type, &stats_type))
         return NULL;
-    Py_INCREF(args); /* and with it what is in it, for as long as the interpreter lasts */
+    Py_INCREF(args); /* so they live as long as the interpreter */
     return none();
 }
 
@@ -1168,14 +1168,15 @@ static PyObject *not_made(PyTypeObject *type, PyObject *args, PyObject *named)
 static PyMethodDef transaction_calls[] = {
     CALL("begin", transaction_begin, METH_NOARGS,
          "begin($self, /)\n--\n\nLocks the segments, and returns the transaction. `with` does so by itself.\n\n"
-         "Where another thread has one of them it waits, for the timeout at most, and then raises Busy. It does so at\n"
-         "once where this thread would wait for itself. After its end a transaction may begin again."),
+         "If another thread has one of them it waits, for the timeout at most, and then raises Busy. It raises Busy\n"
+         "at once if this thread would wait for itself. A signal's handler runs meanwhile, at most a second late.\n"
+         "After its end a transaction may begin again."),
     CALL("commit", transaction_commit, METH_NOARGS,
          "commit($self, /)\n--\n\nCommits, durably unless it was made with durable=False.\n\n"
-         "Returns the Commit, or None where nothing was changed. Where it raises, the transaction is aborted;\n"
-         "but after DeviceFault the state is 'unknown', and the next opening tells."),
+         "Returns the Commit, or None if nothing was changed. If it raises, the transaction is aborted; but after\n"
+         "DeviceFault the state is 'unknown', and the next opening tells."),
     CALL("abort", transaction_abort, METH_NOARGS,
-         "abort($self, /)\n--\n\nGives up what was changed. Of a transaction that is not open it does nothing."),
+         "abort($self, /)\n--\n\nGives up the changes. It does nothing to a transaction that is not open."),
     CALL("read", transaction_read, NAMED,
          "read($self, /, segment, offset, length)\n--\n\nReturns bytes, with what this transaction has changed."),
     CALL("read_into", transaction_read_into, NAMED,
@@ -1184,7 +1185,7 @@ static PyMethodDef transaction_calls[] = {
          "write($self, /, segment, offset, data)\n--\n\nWrites bytes, or those of any buffer."),
     CALL("view", transaction_view, NAMED,
          "view($self, /, segment, offset, length)\n--\n\nReturns a memoryview of bytes, to be changed in place.\n\n"
-         "Reads and the commit see what was changed there. It is released at the end of the transaction."),
+         "Reads and the commit see the changes there. The end of the transaction releases it."),
     CALL("set_range", transaction_set_range, NAMED,
          "set_range($self, /, segment, offset, length)\n--\n\nSays that these bytes are about to change.\n\n"
          "`write` and `view` do so by themselves. Ranges that touch are one, and a transaction may have 64."),
@@ -1202,8 +1203,11 @@ static PyMemberDef transaction_members[] = {
 
 static PyType_Slot transaction_slots[] = {
     {Py_tp_doc, "Changes that are committed together, or not at all; made by Store.transaction.\n\n"
-                "In a `with` it begins, and it is committed at the end, or aborted where the block raises.\n"
-                "t[segment, start:stop] are bytes, which may be assigned. It is used by one thread at a time."},
+                "In a `with` it begins, and it is committed at the end, or aborted if the block raises.\n"
+                "t[segment, start:stop] are bytes, which may be assigned. One thread at a time uses it.\n\n"
+                "A KeyboardInterrupt leaves each call done or not done, never half: `state` says which. In Python\n"
+                "3.8 and 3.9 it may leave a `with` without a call of its end. Then the transaction is open until it\n"
+                "is aborted or dropped."},
     {Py_tp_new, not_made},
     {Py_tp_dealloc, transaction_free},
     {Py_tp_repr, transaction_repr},
@@ -1218,9 +1222,11 @@ static PyMethodDef store_calls[] = {
     CALL("transaction", store_transaction, NAMED,
          "transaction($self, /, *writing, reading=(), durable=None, timeout=None, node=0)\n--\n\n"
          "Makes a transaction that locks segments for writing, and others for reading alone.\n\n"
-         "durable=False says that the commit need not be on the disk yet: a flush, or the close, sees to that. A\n"
-         "durable one has also all that it read there. timeout is how many seconds the begin may wait. Both are by\n"
-         "default as the store was opened, but a transaction that only reads is durable only where that is said."),
+         "timeout is how many seconds the begin may wait. A durable commit is on the disk when it is answered, with\n"
+         "all that it read. With durable=False it is in memory: the next durable commit, a flush, the close, or the\n"
+         "interpreter's end makes it durable, and a kill or os._exit before that loses it. Both are by default as the\n"
+         "store was opened. But a transaction that only reads is durable only if durable=True says so: what it saw\n"
+         "may be lost."),
     CALL("flush", store_flush, NAMED,
          "flush($self, /, node=0)\n--\n\nMakes all commits durable; returns how many there were since the opening."),
     CALL("truncate", store_truncate, NAMED,
@@ -1229,12 +1235,12 @@ static PyMethodDef store_calls[] = {
     CALL("copy", store_copy, NAMED,
          "copy($self, /, path, geometry=None)\n--\n\n"
          "Makes a store of its own in another folder, with each commit that is done.\n\n"
-         "Transactions may be open, and go on; what they have changed is not in the copy. It may be larger: as many\n"
-         "nodes, and no fewer segments, pages and words."),
+         "Open transactions go on; their changes are not in the copy. It may be larger: as many nodes, and no fewer\n"
+         "segments, pages and words."),
     CALL("close", store_close, METH_NOARGS,
          "close($self, /)\n--\n\nMakes all commits durable and ends the store. A second time it does nothing.\n\n"
-         "What this thread has open is aborted. Where another thread has a transaction it waits, for the timeout of\n"
-         "the store at most, and then raises Busy. In a forked child it ends the child's copy alone."),
+         "It aborts the open transactions of this thread. If another thread has one it waits, for the timeout of the\n"
+         "store at most, and then raises Busy. In a forked child it ends the child's copy alone."),
     CALL("leave", store_leave, NAMED,
          "leave($self, /, node, segment)\n--\n\nTakes the segment's token from the node."),
     CALL("arrive", store_arrive, NAMED,
@@ -1252,7 +1258,7 @@ static PyMethodDef store_calls[] = {
     {NULL, NULL, 0, NULL}};
 
 static PyGetSetDef store_values[] = {
-    {"closed", (getter)store_closed, NULL, "Whether it was closed.", NULL},
+    {"closed", (getter)store_closed, NULL, "True once it was closed.", NULL},
     {"path", (getter)store_path, NULL, "The folder, as it was given.", NULL},
     {"geometry", (getter)store_geometry, NULL, "How large it is.", NULL},
     {NULL, NULL, NULL, NULL, NULL}};
@@ -1261,7 +1267,9 @@ static PyMemberDef store_members[] = {
     {"__weaklistoffset__", T_PYSSIZET, offsetof(Store, weak), READONLY, NULL}, {NULL, 0, 0, 0, NULL}};
 
 static PyType_Slot store_slots[] = {
-    {Py_tp_doc, "Store(path, geometry=None, durable=True, timeout=5.0)\n--\n\nA store that is open; see lcrvm.open."},
+    {Py_tp_doc, "Store(path, geometry=None, durable=True, timeout=5.0)\n--\n\nA store that is open; see lcrvm.open.\n\n"
+                "If nobody closes it, it is closed when it is dropped, or when the interpreter ends. A forked child\n"
+                "cannot use the stores of its parent."},
     {Py_tp_new, store_new},
     {Py_tp_dealloc, store_free},
     {Py_tp_repr, store_repr},

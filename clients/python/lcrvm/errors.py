@@ -1,4 +1,11 @@
-"""Why a call did nothing: a class for each answer of the library, with the fields that it has."""
+"""The exceptions: one class for each answer of the library, with its fields.
+
+Each is an Error. After a Refused the store goes on as before. Some are also
+exceptions of Python: Exists is a FileExistsError, NoStore a FileNotFoundError,
+StoreInUse a BlockingIOError, DeviceFault an OSError, NoMemory a MemoryError,
+and Closed a ValueError. A number that is negative or has more than 32 bits is
+a ValueError.
+"""
 from __future__ import annotations
 
 import errno
@@ -18,7 +25,7 @@ _system = {65: errno.EAGAIN, 66: errno.ENOENT, 67: errno.EEXIST}
 
 
 class Error(Exception):
-    """A call did nothing, or not all. `text` is what the system said, with the names of files; often it is empty."""
+    """A call did nothing, or not all. `text` has the system's words, with the names of files; often it is empty."""
 
     code: ClassVar[int] = 0
     fields: ClassVar[Tuple[str, ...]] = ()
@@ -37,11 +44,10 @@ class Error(Exception):
         super().__init__(f"{text}: {self._sentence()}" if text else self._sentence())
         number = values.get("error") or _system.get(self.code)
         if isinstance(self, OSError) and number:
-            name, colon, _ = text.partition(": ")
-            # (of OSError, whose types they keep)
+            # OSError declares these three with types of its own.
             setattr(self, "errno", number)
             setattr(self, "strerror", os.strerror(number))
-            setattr(self, "filename", name if colon else None)
+            setattr(self, "filename", _file_of(text, os.strerror(number)))
 
     def __str__(self) -> str:
         return str(self.args[0])
@@ -51,6 +57,15 @@ class Error(Exception):
 
     def __reduce__(self) -> Tuple[Any, ...]:
         return _made, (type(self), self.text, self.values)
+
+
+def _file_of(text: str, reason: str) -> Optional[str]:
+    """Returns the file that the first line of `text` names, before `reason` or before the first colon."""
+    line = text.partition("\n")[0]
+    end = line.find(f": {reason}")
+    if end < 0:
+        end = line.find(": ")
+    return line[:end] if end > 0 else None
 
 
 def _made(kind: Type[Error], text: str, values: Dict[str, Optional[int]]) -> Error:
@@ -80,7 +95,7 @@ class OutOfTurn(Refused, code=4, says="begin and end each transaction once, and 
 class Busy(Refused, code=5):
     """Another transaction has the segment, or all threads of the node are taken: then `segment` is 0.
 
-    `thread` is the identifier of the Python thread that has it (threading.get_ident), or None where it is unknown.
+    `thread` is the identifier of the Python thread that has it (threading.get_ident), or None if it is unknown.
     """
 
     segment: int
@@ -230,11 +245,11 @@ class Exists(Error, FileExistsError, code=67, says="the name is taken: open what
 
 
 class Misuse(Error, code=68, says="the library was called without an argument: that is a fault of this package"):
-    """An argument is missing; it is not to be had from Python."""
+    """An argument is missing: Python never gives this answer."""
 
 
 class Forked(Error, code=69, says="the store is of the parent process: open it after the fork, in one process alone"):
-    """The store was opened by the parent of this process."""
+    """The parent of this process opened the store."""
 
 
 class Closed(Error, ValueError, code=100, says="the store is closed: open it again"):
@@ -245,6 +260,6 @@ _numbers = ("segment", "sequence", "applied", "area", "words", "tail", "need", "
 
 
 def error_of(code: int, text: str, *values: Optional[int]) -> Error:
-    """The exception of an answer, with the fields of its class."""
+    """Makes the exception of the answer `code`, with those of `values` that its class has."""
     kind, given = _kinds.get(code, Error), dict(zip(_numbers, values))
     return kind(text, **{name: given[name] for name in kind.fields})
