@@ -59,7 +59,6 @@ uint32_t lcrvm_session_set_range(struct handle *handle, uint16_t node, uint16_t 
 uint32_t lcrvm_session_read(struct handle *handle, uint16_t node, uint16_t thread, uint32_t segment, uint32_t offset,
                             uint8_t *buffer, size_t len, struct answer *answer);
 uint32_t lcrvm_session_abort(struct handle *handle, uint16_t node, uint16_t thread, struct answer *answer);
-uint32_t lcrvm_session_reserve(struct handle *handle, uint16_t node, uint16_t thread, struct answer *answer);
 uint32_t lcrvm_session_flush_step(struct handle *handle, uint16_t node, struct answer *answer);
 uint32_t lcrvm_session_truncate_step(struct handle *handle, uint16_t node, struct answer *answer);
 uint32_t lcrvm_session_leave(struct handle *handle, uint16_t node, uint32_t segment, struct answer *answer);

@@ -7,3 +7,4 @@ mod Mirroring
 mod Begins
 mod AsDraftBox
 mod HeldDraft
+mod Drafted

@@ -106,8 +106,13 @@ abbrev pub lock_status : Result (Unit {0}) AllocError → ℕ
 lock_status (Ok its) = 0
 lock_status (Err error) = 64
 
+-- so it does, and this is the answer to C
+pub record LocksBy (session : Session) (node thread : ℕ) (old : Draft) (status : ℕ) (new : Draft) : Type 0 where
+  pub result : Result (Unit {0}) AllocError
+  pub does : LocksDraft session node thread old result new
+  pub answers : status ≡ lock_status result
+
 -- the draft of a handle begins with the locks of the transaction that a thread has open in the session of the other
 abbrev pub LocksIf : Bool → Session → ℕ → ℕ → Draft → ℕ → Draft → Type 0
-LocksIf true session node thread old status new =
-    (result : Result (Unit {0}) AllocError) × LocksDraft session node thread old result new × (status ≡ lock_status result)
+LocksIf true session node thread old status new = LocksBy session node thread old status new
 LocksIf false session node thread old status new = status ≡ 1

@@ -1,8 +1,8 @@
 //! What C calls.
 ghost use Rattle.std.specs.Prelude.{◌≡◌, ◌⊎◌, [], true, false, Ok, Some, length};
 ghost use Rattle.lc_record.specs.Geometry.{HasNumbers, IsGeometry};
-ghost use Rattle.lc_model.specs.declared.event.Event.TheVariants.{Abort, Arrive, Begin, Close, Deliver, FlushStep, Leave};
-ghost use Rattle.lc_model.specs.declared.event.Event.TheVariants.{Read, RecoverStep, Reserve, SetRange, Trim, Write};
+ghost use Rattle.lc_model.specs.declared.event.Event.TheVariants.{Abort, Arrive, Begin, Deliver, FlushStep, Leave};
+ghost use Rattle.lc_model.specs.declared.event.Event.TheVariants.{Read, RecoverStep, SetRange, Trim};
 ghost use Rattle.lc_c.specs.Calls.{AddsIf, BeginsBy, BeginsIf, Fills, IsBegun, StartsIf, Steps};
 ghost use Rattle.lc_c.specs.Calls.{StepsIf, TellsBytes, TellsCall};
 ghost use Rattle.lc_c.specs.SessionState.{is_step};
@@ -153,25 +153,6 @@ pub extern "C" fn lcrvm_session_set_range(
     step(alloc, handle, &event, answer)
 }
 
-/// It writes bytes at positions that it set.
-#[unsafe(no_mangle)]
-pub extern "C" fn lcrvm_session_write(
-    handle: &mut Handle,
-    node: u16,
-    thread: u16,
-    segment: u32,
-    offset: u32,
-    bytes: &[u8],
-    answer: &mut Answer,
-) -> u32
-    ensures steps { Steps handle.old (Write node thread segment offset bytes.now) answer.new handle.new }
-    ensures status { result ≡ answer.new.status }
-{
-    let said = Ok(written(handle, node, thread, segment, offset, bytes));
-    *answer = Answer::of(&said);
-    answer.status
-}
-
 /// It fills a buffer with bytes of a segment that it locked; where it is refused the buffer is as before.
 #[unsafe(no_mangle)]
 pub extern "C" fn lcrvm_session_read(
@@ -204,36 +185,6 @@ pub extern "C" fn lcrvm_session_abort(
     ensures status { result ≡ answer.new.status }
 {
     step(alloc, handle, &Event::Abort { node, thread }, answer)
-}
-
-/// It gets its place in the log.
-#[unsafe(no_mangle)]
-pub extern "C" fn lcrvm_session_reserve(
-    alloc: Global,
-    handle: &mut Handle,
-    node: u16,
-    thread: u16,
-    answer: &mut Answer,
-) -> u32
-    ensures steps { Steps handle.old (Reserve node thread) answer.new handle.new }
-    ensures status { result ≡ answer.new.status }
-{
-    step(alloc, handle, &Event::Reserve { node, thread }, answer)
-}
-
-/// The record that a thread reserved is complete.
-#[unsafe(no_mangle)]
-pub extern "C" fn lcrvm_session_close_record(
-    alloc: Global,
-    handle: &mut Handle,
-    node: u16,
-    thread: u16,
-    answer: &mut Answer,
-) -> u32
-    ensures steps { Steps handle.old (Close node thread) answer.new handle.new }
-    ensures status { result ≡ answer.new.status }
-{
-    step(alloc, handle, &Event::Close { node, thread }, answer)
 }
 
 /// A device call of a node's flush.
@@ -423,24 +374,6 @@ fn begun_free(handle: &mut Handle, node: u16, writing: &[u32], reading: &[u32]) 
         return (0, Reply::Refused(Refusal::Down));
     }
     handle.get_mut().begin_free(node, writing, reading)
-}
-
-fn written(
-    handle: &mut Handle,
-    node: u16,
-    thread: u16,
-    segment: u32,
-    offset: u32,
-    bytes: &[u8],
-) -> Reply
-    ensures steps { StepsIf handle.old.held handle.old.value (Write node thread segment offset bytes.now)
-        (Ok result) handle.new.value }
-    ensures held { handle.new.held ≡ handle.old.held }
-{
-    if !handle.is_held() {
-        return Reply::Refused(Refusal::Down);
-    }
-    handle.get_mut().write(node, thread, segment, offset, bytes)
 }
 
 fn read(

@@ -2,7 +2,7 @@
 ghost use Rattle.std.specs.Prelude.{◌≡◌, ◌&&◌};
 ghost use Rattle.lc_events.specs.Answered.{place_taken};
 ghost use Rattle.lc_c.specs.HandingCalls.{BeginsAgainBy, BeginsAgainIf, BeginsDraftAgain, EndsBy, EndsDraft, EndsIf};
-ghost use Rattle.lc_c.specs.HandingCalls.{HandsIf, HandsNext, HandsOver, LocksDraft, LocksIf, answer_to};
+ghost use Rattle.lc_c.specs.HandingCalls.{HandsIf, HandsNext, HandsOver, LocksBy, LocksIf, answer_to};
 ghost use Rattle.lc_c.specs.SessionState.{replied};
 
 use crate::answer::{Answer, DONE, NO_MEMORY};
@@ -30,10 +30,7 @@ pub extern "C" fn lcrvm_session_lock_draft(
     if !handle.is_held() || !draft.is_held() {
         return Refusal::Down.code() as u32;
     }
-    match handle.get_mut().lock_draft(node, thread, draft.get_mut()) {
-        Ok(()) => DONE,
-        Err(_) => NO_MEMORY,
-    }
+    lock_draft(handle.get_mut(), node, thread, draft.get_mut())
 }
 
 /// Hands the next range of the draft over to the store, if there is one, where the transaction of a thread is open: it
@@ -91,6 +88,16 @@ pub extern "C" fn lcrvm_session_begin_again(
     let said = Ok(begun_again(alloc, handle, node, thread, draft));
     *answer = Answer::of(&said);
     answer.status
+}
+
+fn lock_draft(session: &mut Session, node: u16, thread: u16, draft: &mut Draft) -> u32
+    ensures locks { LocksBy session.old node thread draft.old result draft.new }
+    ensures same { session.new ≡ session.old }
+{
+    match session.lock_draft(node, thread, draft) {
+        Ok(()) => DONE,
+        Err(_) => NO_MEMORY,
+    }
 }
 
 fn handed(

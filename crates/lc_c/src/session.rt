@@ -1,7 +1,7 @@
 //! A store that is brought up from what files hold, and takes steps.
 ghost use Rattle.std.specs.Prelude.{◌≡◌, [], true, false, Option, None, Some, IfErr, IfOk, OnErr, Ok, Err, length};
 ghost use Rattle.std.specs.Prelude.{option_copied};
-ghost use Rattle.lc_model.specs.declared.event.Event.TheVariants.{Begin, Read, Write};
+ghost use Rattle.lc_model.specs.declared.event.Event.TheVariants.{Begin, Read};
 ghost use Rattle.lc_model.specs.declared.reply.Reply.TheVariants.{Bytes, Refused};
 ghost use Rattle.lc_events.specs.declared.call_fault.CallFault.TheVariants.{NoMemory, Refused as IsRefused};
 ghost use Rattle.lc_model.specs.declared.refusal.Refusal.TheVariants.{OutOfTurn};
@@ -127,25 +127,6 @@ impl Session {
     {
         match &mut self.stage {
             SessionState::Open(world) => said(world.begin(node, thread, writing, reading)),
-            stage => Reply::Refused(stage.refusal()),
-        }
-    }
-
-    /// The open transaction of a thread writes. It takes no memory.
-    pub(crate) fn write(
-        &mut self,
-        node: u16,
-        thread: u16,
-        segment: u32,
-        offset: u32,
-        bytes: &[u8],
-    ) -> Reply
-        ensures steps { StepsStage self.old.stage (Write node thread segment offset bytes.now)
-            (Ok result) self.new.stage }
-        ensures beside { IsSameBeside self.old self.new }
-    {
-        match &mut self.stage {
-            SessionState::Open(world) => said(world.write(node, thread, segment, offset, bytes)),
             stage => Reply::Refused(stage.refusal()),
         }
     }

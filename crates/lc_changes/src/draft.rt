@@ -93,7 +93,7 @@ impl Draft {
         ensures image_len { image_len_of self.new ≡ image_len_of self.old }
     {
         self.changes.clear();
-        self.handed = 0;
+        self.rewind();
     }
 
     /// The transaction is about to change `len` bytes of a segment, whose image is this, from `offset` on. It answers as
