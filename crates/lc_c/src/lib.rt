@@ -9,6 +9,7 @@ mod area_call;
 mod aside;
 mod begin_free;
 mod box_parts;
+mod dirty_positions;
 mod emptying_exports;
 mod exports;
 mod handle;
