@@ -1,11 +1,9 @@
 -- A file on which the last call of an area is made holds what the area holds.
-use Rattle.std.proofs.Common.{◌≡◌, ℕ, ◌+◌, List, ◌++◌, length, take, drop, Option, None, Some, refl, sym, ap, ◌∙◌, inl, inr, arith}
+use Rattle.std.proofs.Common.{◌≡◌, ℕ, ◌+◌, Bool, List, ◌++◌, length, take, drop, Option, None, Some, refl, sym, ap, ◌∙◌, inl, inr, arith}
 use Rattle.std.proofs.lemmas.Bool.{cases_lt}
 use Rattle.std.proofs.lemmas.List.{append_assoc, drop-drop, drop_all, length-drop, length-take-le, take-append-drop, take_all}
 use Rattle.lc_disk.specs.Area.{IsSameOutside, overlaid}
-use Rattle.lc_disk.specs.MemArea.{memory_now}
-use Rattle.lc_disk.specs.declared.mem_area.MemArea.{MemArea}
-use Rattle.lc_c.specs.MirrorArea.{IsSync, IsUncalled, IsWrite}
+use Rattle.lc_c.specs.MirrorArea.{IsSync, IsWrite}
 use Rattle.lc_c.specs.Mirrors.{called}
 use Rattle.lc_c.specs.declared.area_call.AreaCall.{AreaCall}
 use Rattle.lc_c.specs.declared.area_call.AreaCall.TheVariants.{Sync, Write}
@@ -26,9 +24,9 @@ laid at len before now same =
     ∙ append_assoc (take at now) bytes (drop len (drop at now))
     ∙ ap (λ (l : List ℕ). take at now ++ l) (take-append-drop len (drop at now)) ∙ take-append-drop at now
 
-pub mirrors : (last : Option AreaCall) (before now : MemArea) → (last ≡ None → IsUncalled before now)
-    → ((at len : ℕ) → last ≡ Some (Write at len) → IsWrite at len before now) → (last ≡ Some Sync → IsSync before now)
-    → called last (memory_now before) (memory_now now) ≡ memory_now now
-mirrors None before now none write sync = sym (none refl).same
-mirrors (Some (Write at len)) before now none write sync = laid at len (memory_now before) (memory_now now) (write at len refl).elsewhere
-mirrors (Some Sync) before now none write sync = sym (sync refl).same
+pub mirrors : (last : Option AreaCall) (before now : List ℕ) (dirty : ℕ → Bool) → (last ≡ None → now ≡ before)
+    → ((at len : ℕ) → last ≡ Some (Write at len) → IsWrite at len before now dirty) → (last ≡ Some Sync → IsSync before now dirty)
+    → called last before now ≡ now
+mirrors None before now dirty none write sync = sym (none refl)
+mirrors (Some (Write at len)) before now dirty none write sync = laid at len before now (write at len refl).elsewhere
+mirrors (Some Sync) before now dirty none write sync = sym (sync refl).same

@@ -1,3 +1,4 @@
+pub mod DirtyPositions
 pub mod MirrorArea
 pub mod Mirrors
 pub mod SessionState

@@ -1,7 +1,6 @@
 -- How far a session is, as contracts see it.
 use Rattle.std.specs.Prelude.{◌≡◌, ◌≢◌, ℕ, ◌++◌, Bool, true, false, List, [], ◌∷◌, length, map, Option, Some, None, Result, Ok, Err, slice_get}
 use Rattle.std.specs.declared.alloc.AllocError.{AllocError}
-use Rattle.lc_disk.specs.MemArea.{memory_now}
 use Rattle.lc_record.specs.declared.geometry.Geometry.{Geometry}
 use Rattle.lc_model.specs.Merge.{IsLeast}
 use Rattle.lc_model.specs.declared.event.Event.{Event}
@@ -16,7 +15,7 @@ use Rattle.lc_core.specs.Answered.{ComesTo}
 use Rattle.lc_core.specs.Stops.{HasAreas}
 use Rattle.lc_core.specs.declared.world_phase.WorldPhase.TheVariants.{Down}
 use Rattle.lc_core.specs.declared.world.World.{World}
-use Rattle.lc_c.specs.Mirrors.{IsOfFile, mirror_area}
+use Rattle.lc_c.specs.Mirrors.{IsOfFile, mirror_now}
 use Rattle.lc_c.specs.declared.mirror_area.MirrorArea.{MirrorArea}
 use Rattle.lc_c.specs.contracts.mirror_area.MirrorAreaArea.TheImpl.{ghosts}
 use Rattle.lc_c.specs.declared.session_state.SessionState.{SessionState}
@@ -57,7 +56,7 @@ pub record IsAdded (bytes : List ℕ) (olds news : List MirrorArea) : Type 0 whe
 abbrev pub StartsStage : SessionState → Result (Unit {0}) Refusal → SessionState → Type 0
 StartsStage (Gathering geometry areas) (Ok its) new = (store : SessionStore) × (new ≡ Open store) × (store.phase ≡ Down (begun geometry areas.items))
 StartsStage (Gathering geometry areas) (Err refusal) new = (new ≡ Over) × (area : ℕ) × (refusal ≡ BadGeometry area)
-    × IsLeast (λ k. slice_get (map (λ m. length (memory_now (mirror_area m))) areas.items) k ≢ area_len geometry k) area
+    × IsLeast (λ k. slice_get (map (λ m. length (mirror_now m)) areas.items) k ≢ area_len geometry k) area
 StartsStage old result new = (result ≡ Err OutOfTurn) × (new ≡ old)
 
 -- Its store takes steps

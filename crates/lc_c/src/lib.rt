@@ -6,6 +6,7 @@ mod answer;
 mod area_call;
 mod begin_free;
 mod box_parts;
+mod dirty_positions;
 mod draft_exports;
 mod draft_handle;
 mod exports;

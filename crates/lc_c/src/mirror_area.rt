@@ -3,33 +3,39 @@ ghost use Rattle.std.specs.Prelude.{◌≡◌, ◌+◌, ◌≤◌, ◌<◌, ◌^
 ghost use Rattle.std.specs.Prelude.{option_copied, take, drop, Ok, IfOk, OnErr};
 ghost use Rattle.std.proofs.Common.{rules};
 ghost use Rattle.lc_disk.specs.Area.{IsImage, IsSameOutside, BecomeDirty, overlaid};
-ghost use Rattle.lc_disk.specs.MemArea.{memory_calls, memory_dirty, memory_now, memory_stable, KeepsMemory};
-ghost use Rattle.lc_disk.specs.Stop.{left_by_stop};
-ghost use Rattle.lc_c.specs.MirrorArea.{IsSync, IsUncalled, IsWrite};
+ghost use Rattle.lc_disk.specs.Tally.{tallied};
+ghost use Rattle.lc_c.specs.DirtyPositions.{is_dirty};
+ghost use Rattle.lc_c.specs.MirrorArea.{IsSync, IsWrite};
 ghost use Rattle.lc_c.specs.declared.area_call.AreaCall.TheVariants.{Write, Sync};
 
 use crate::area_call::AreaCall;
-use lc_disk::{Area, Choice, DeviceFault, MemArea, Stoppable};
+use crate::dirty_positions::DirtyPositions;
+use lc_disk::{Area, Choice, DeviceFault, Stoppable, Tally};
 use std::alloc::{AllocError, Global};
 use std::snapshot::Snapshot;
 
 /// An area in memory, which never fails, and keeps the last call that changed it or made it stable: who makes each of
 /// these on a file has a file that holds what the area holds. How many calls there were is counted, from 0 again after
-/// 2^64 - 1. `of_file` alone takes memory.
+/// 2^64 - 1. `of_file` alone takes memory: one byte for each byte of the file.
 #[derive(Drop)]
 pub(crate) struct MirrorArea {
-    area: MemArea,
+    bytes: Vec<u8>,
     last: Option<AreaCall>,
     calls: u64,
-    // The area before the last call.
-    before: Snapshot<MemArea>,
-    ghost none: { last ≡ None → IsUncalled before.value area },
-    ghost write: { (at len : ℕ) → last ≡ Some (Write at len) → IsWrite at len before.value area },
-    ghost sync: { last ≡ Some Sync → IsSync before.value area },
+    // For contracts alone: the bytes before the last call, the positions that a stop may change, and how often the area
+    // was called to read, write or sync.
+    before: Snapshot<Vec<u8>>,
+    dirty: DirtyPositions,
+    tally: Tally,
+    ghost fits: { (k : ℕ) → slice_index_or bytes.items k 0 < 256 },
+    ghost none: { last ≡ None → bytes.items ≡ before.value.items },
+    ghost write: { (at len : ℕ) → last ≡ Some (Write at len)
+        → IsWrite at len before.value.items bytes.items (is_dirty dirty) },
+    ghost sync: { last ≡ Some Sync → IsSync before.value.items bytes.items (is_dirty dirty) },
 }
 
 impl MirrorArea {
-    ghost use Rattle.lc_c.specs.Mirrors.{called, mirror_area, mirror_before, mirror_calls, mirror_last, window_of};
+    ghost use Rattle.lc_c.specs.Mirrors.{called, mirror_before, mirror_calls, mirror_last, mirror_now, window_of};
     ghost use Rattle.lc_c.specs.Mirrors.{IsOfFile};
 
     /// What a file holds, of which no byte is known to be stable. Nothing was called yet.
@@ -37,29 +43,33 @@ impl MirrorArea {
         ensures file { IfOk result (IsOfFile bytes.now) }
         ensures memory { OnErr result (0 < length bytes.now) }
     {
-        let mut area = MemArea::from_bytes(alloc, bytes)?;
-        area.spoil(0, bytes.len());
-        let before = Snapshot::of(&area);
+        let mut held = Vec::with_capacity(alloc, bytes.len())?;
+        held.extend_from_slice(bytes)?;
+        let before = Snapshot::of(&held);
+        let mut dirty = DirtyPositions::none();
+        dirty.add(0, bytes.len());
         Ok(MirrorArea {
-            area,
+            bytes: held,
             last: None,
             calls: 0,
             before,
+            dirty,
+            tally: Tally::new(),
         })
     }
 
     /// What a read gives, in place.
     pub(crate) fn bytes(&self) -> &[u8]
-        ensures { result.now ≡ memory_now (mirror_area self.now) }
+        ensures { result.now ≡ mirror_now self.now }
     {
-        self.area.bytes()
+        self.bytes.as_slice()
     }
 
     /// So many of them from a position on, where it has them.
     pub(crate) fn window(&self, at: usize, len: usize) -> Option<&[u8]>
         ensures { option_copied result ≡ window_of self.now at len }
     {
-        let bytes = self.area.bytes();
+        let bytes = self.bytes.as_slice();
         if at > bytes.len() || len > bytes.len() - at {
             return None;
         }
@@ -70,8 +80,7 @@ impl MirrorArea {
     /// what the area holds.
     pub(crate) fn last(&self) -> Option<AreaCall>
         ensures last { result ≡ mirror_last self.now }
-        ensures mirrors { called result (memory_now (mirror_before self.now)) (memory_now (mirror_area self.now))
-            ≡ memory_now (mirror_area self.now) }
+        ensures mirrors { called result (mirror_before self.now) (mirror_now self.now) ≡ mirror_now self.now }
     {
         self.last
     }
@@ -85,81 +94,84 @@ impl MirrorArea {
 }
 
 impl Area for MirrorArea {
-    ghost use Rattle.lc_c.specs.Mirrors.{mirror_area, mirror_before, mirror_calls, mirror_last};
+    ghost use Rattle.lc_c.specs.Mirrors.{mirror_before, mirror_calls, mirror_dirty, mirror_last, mirror_now};
+    ghost use Rattle.lc_c.specs.Mirrors.{mirror_tally};
 
-    ghost now = { λ m. memory_now m.area };
+    ghost now = { λ m. m.bytes.items };
 
-    ghost dirty = { λ m. memory_dirty m.area };
+    ghost dirty = { λ m. is_dirty m.dirty };
 
-    ghost calls = { λ m. memory_calls m.area };
+    ghost calls = { λ m. tallied m.tally };
 
     ghost failures = { λ m. 0 };
 
     ghost honest = { λ m. true };
 
-    ghost reads_bytes = { λ m honest k. m.area.fits k };
+    ghost reads_bytes = { λ m honest k. m.fits k };
 
     ghost len_fits = { Prim.search rules };
 
     fn len(&self) -> usize {
-        self.area.len()
+        self.bytes.len()
     }
 
     fn read(&mut self, at: usize, buffer: &mut [u8]) -> Result<(), DeviceFault>
-        requires { at + length buffer.old ≤ length (memory_now (mirror_area self.old)) }
+        requires { at + length buffer.old ≤ length (mirror_now self.old) }
         ensures done { result ≡ Ok tt }
-        ensures bytes { buffer.new ≡ take (length buffer.old) (drop at (memory_now (mirror_area self.old))) }
-        ensures same { KeepsMemory (mirror_area self.old) (mirror_area self.new) }
+        ensures bytes { buffer.new ≡ take (length buffer.old) (drop at (mirror_now self.old)) }
+        ensures same { mirror_now self.new ≡ mirror_now self.old }
+        ensures same_dirty { (k : ℕ) → mirror_dirty self.new k ≡ mirror_dirty self.old k }
         ensures last { mirror_last self.new ≡ mirror_last self.old }
         ensures before { mirror_before self.new ≡ mirror_before self.old }
         ensures calls { mirror_calls self.new ≡ mirror_calls self.old }
-        ensures called { memory_calls (mirror_area self.new) ≡ memory_calls (mirror_area self.old) + 1 }
+        ensures called { mirror_tally self.new ≡ mirror_tally self.old + 1 }
     {
-        self.area.read(at, buffer)
+        self.tally.count();
+        buffer.copy_from_slice(&self.bytes[at..at + buffer.len()]);
+        Ok(())
     }
 
     /// The last call is this write then, and what it changed is the area that was.
     fn write_at(&mut self, at: usize, bytes: &[u8]) -> Result<(), DeviceFault>
-        requires { at + length bytes.now ≤ length (memory_now (mirror_area self.old)) }
+        requires { at + length bytes.now ≤ length (mirror_now self.old) }
         ensures done { result ≡ Ok tt }
-        ensures written { memory_now (mirror_area self.new)
-            ≡ overlaid (memory_now (mirror_area self.old)) at bytes.now }
-        ensures torn { IsSameOutside at (length bytes.now) (memory_now (mirror_area self.old))
-            (memory_now (mirror_area self.new)) }
-        ensures dirtied { BecomeDirty at (length bytes.now) (memory_dirty (mirror_area self.old))
-            (memory_dirty (mirror_area self.new)) }
+        ensures written { mirror_now self.new ≡ overlaid (mirror_now self.old) at bytes.now }
+        ensures torn { IsSameOutside at (length bytes.now) (mirror_now self.old) (mirror_now self.new) }
+        ensures dirtied { BecomeDirty at (length bytes.now) (mirror_dirty self.old) (mirror_dirty self.new) }
         ensures last { mirror_last self.new ≡ Some (Write at (length bytes.now)) }
-        ensures before { mirror_before self.new ≡ mirror_area self.old }
+        ensures before { mirror_before self.new ≡ mirror_now self.old }
         ensures calls { mirror_calls self.new ≡ (mirror_calls self.old + 1) % 2 ^ 64 }
-        ensures called { memory_calls (mirror_area self.new) ≡ memory_calls (mirror_area self.old) + 1 }
+        ensures called { mirror_tally self.new ≡ mirror_tally self.old + 1 }
     {
-        let before = Snapshot::of(&self.area);
-        let done = self.area.write_at(at, bytes);
+        let before = Snapshot::of(&self.bytes);
+        overlay(&mut self.bytes, at, bytes);
+        self.dirty.add(at, bytes.len());
+        self.tally.count();
         self.before = before;
         self.last = Some(AreaCall::Write {
             at,
             len: bytes.len(),
         });
         self.calls = self.calls.wrapping_add(1);
-        done
+        Ok(())
     }
 
     /// The last call is this sync then, and what it made stable is the area that was.
     fn sync(&mut self) -> Result<(), DeviceFault>
         ensures done { result ≡ Ok tt }
-        ensures same { memory_now (mirror_area self.new) ≡ memory_now (mirror_area self.old) }
-        ensures clean { (k : ℕ) → memory_dirty (mirror_area self.new) k ≡ false }
+        ensures same { mirror_now self.new ≡ mirror_now self.old }
+        ensures clean { (k : ℕ) → mirror_dirty self.new k ≡ false }
         ensures last { mirror_last self.new ≡ Some Sync }
-        ensures before { mirror_before self.new ≡ mirror_area self.old }
+        ensures before { mirror_before self.new ≡ mirror_now self.old }
         ensures calls { mirror_calls self.new ≡ (mirror_calls self.old + 1) % 2 ^ 64 }
-        ensures called { memory_calls (mirror_area self.new) ≡ memory_calls (mirror_area self.old) + 1 }
+        ensures called { mirror_tally self.new ≡ mirror_tally self.old + 1 }
     {
-        let before = Snapshot::of(&self.area);
-        let done = self.area.sync();
-        self.before = before;
+        self.before = Snapshot::of(&self.bytes);
+        self.dirty = DirtyPositions::none();
+        self.tally.count();
         self.last = Some(AreaCall::Sync);
         self.calls = self.calls.wrapping_add(1);
-        done
+        Ok(())
     }
 
     fn faults(&self) -> u64 {
@@ -168,25 +180,32 @@ impl Area for MirrorArea {
 }
 
 impl Stoppable for MirrorArea {
-    ghost use Rattle.lc_c.specs.Mirrors.{mirror_area, mirror_last};
+    ghost use Rattle.lc_c.specs.Mirrors.{mirror_dirty, mirror_last, mirror_now, mirror_tally};
 
-    ghost left = { λ m choices k. left_by_stop (memory_now m.area) (memory_stable m.area)
-        (memory_dirty m.area) choices k };
+    ghost left = { λ m choices k. slice_index_or m.bytes.items k 0 };
 
-    /// As of an area in memory. It is no call.
+    /// Keeps each byte as it reads, whatever the choices, which is one image of the area. A session stops no area, so
+    /// what was stable is not kept. It is no call.
     fn stop(&mut self, choices: &[Choice])
-        ensures len { length (memory_now (mirror_area self.new)) ≡ length (memory_now (mirror_area self.old)) }
-        ensures chosen { (k : ℕ) → slice_index_or (memory_now (mirror_area self.new)) k 0
-            ≡ left_by_stop (memory_now (mirror_area self.old)) (memory_stable (mirror_area self.old))
-            (memory_dirty (mirror_area self.old)) choices.now k }
-        ensures image { IsImage (memory_now (mirror_area self.old)) (memory_dirty (mirror_area self.old))
-            (memory_now (mirror_area self.new)) }
-        ensures clean { (k : ℕ) → memory_dirty (mirror_area self.new) k ≡ false }
+        ensures same { mirror_now self.new ≡ mirror_now self.old }
+        ensures image { IsImage (mirror_now self.old) (mirror_dirty self.old) (mirror_now self.new) }
+        ensures clean { (k : ℕ) → mirror_dirty self.new k ≡ false }
         ensures last { mirror_last self.new ≡ None }
-        ensures called { memory_calls (mirror_area self.new) ≡ memory_calls (mirror_area self.old) }
+        ensures called { mirror_tally self.new ≡ mirror_tally self.old }
     {
-        self.area.stop(choices);
-        self.before = Snapshot::of(&self.area);
+        let _ = choices;
+        self.before = Snapshot::of(&self.bytes);
+        self.dirty = DirtyPositions::none();
         self.last = None;
     }
+}
+
+// Lays bytes over those from a position on.
+fn overlay(area: &mut [u8], at: usize, bytes: &[u8])
+    requires { at + length bytes.now ≤ length area.old }
+    ensures fits { (k : ℕ) → slice_index_or area.new k 0 < 256 }
+    ensures written { area.new ≡ overlaid area.old at bytes.now }
+    ensures torn { IsSameOutside at (length bytes.now) area.old area.new }
+{
+    area[at..at + bytes.len()].copy_from_slice(bytes);
 }
