@@ -1,6 +1,9 @@
-"""Lets `rt lib` build over what `rt ci` has proved in this checkout. The gate proves each library and leaves it built, but writes
-no stamp beside it, so that other commands would prove all of them again: an hour on four slow cores. Only the gate's script calls
-this, right after the gate has passed. Where the kit is another than this was written for, it writes nothing, and `rt lib` proves."""
+"""Lets `rt lib` build over what `rt ci` has proved in this checkout.
+
+The gate proves each library and leaves it built, but writes no stamp beside it. So other commands would prove all of
+them again, which takes an hour on four slow cores. Only the gate's script calls this, right after the gate has passed.
+With a kit that it was not written for it writes nothing, and `rt lib` proves all.
+"""
 import importlib.machinery
 import importlib.util
 import os

@@ -1916,8 +1916,9 @@ static void copies_larger(struct lcrvm_store *store, const char *folder)
 {
     static const struct lcrvm_geometry larger = SIZED(1, 5, 3, 6, 128);
     static const struct lcrvm_geometry wrong[] = {
-        SIZED(2, 2, 2, 4, 64), SIZED(1, 0, 2, 4, 64), SIZED(1, 17, 2, 4, 64), SIZED(1, 2, 1, 4, 64), SIZED(1, 2, 17, 4, 64),
-        SIZED(1, 2, 2, 3, 64), SIZED(1, 2, 2, 1025, 64), SIZED(1, 2, 2, 4, 63), SIZED(1, 2, 2, 4, 4097),
+        SIZED(2, 2, 2, 4, 64), SIZED(1, 0, 2, 4, 64),  SIZED(1, 17, 2, 4, 64),   SIZED(1, 2, 1, 4, 64),
+        SIZED(1, 2, 2, 3, 64), SIZED(1, 2, 17, 4, 64), SIZED(1, 2, 2, 1025, 64), SIZED(1, 2, 2, 4, 63),
+        SIZED(1, 2, 2, 4, 4097),
     };
     struct lcrvm_geometry none = larger;
     struct lcrvm_store *copy;
@@ -1932,7 +1933,8 @@ static void copies_larger(struct lcrvm_store *store, const char *folder)
     ANSWERS(lcrvm_copy(store, path, &none), LCRVM_MISUSE);
     ANSWERS(lcrvm_copy(store, path, &larger), LCRVM_OK);
     copy = opened_as(path, NULL);
-    CHECK(lcrvm_geometry_of(copy)->segments == 3 && lcrvm_geometry_of(copy)->pages == 6 && lcrvm_geometry_of(copy)->words == 128);
+    CHECK(lcrvm_geometry_of(copy)->segments == 3 && lcrvm_geometry_of(copy)->pages == 6);
+    CHECK(lcrvm_geometry_of(copy)->words == 128);
     CHECK(holds(copy, 0, 1, 0, "lazy") && holds(copy, 0, 3, 1535, "\0"));
     ANSWERS(commit(copy, 0, 3, 1530, "more"), LCRVM_OK);
     ANSWERS(commit(copy, 0, 1, 1100, "behind"), LCRVM_OK);

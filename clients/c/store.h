@@ -43,8 +43,9 @@ struct lcrvm_store {
     uint64_t calls[MOST_AREAS]; /* of each area, those that its file has had */
     bool stable[MOST_AREAS];    /* of each file, whether all that was written to it is */
     uint8_t *bytes;             /* room for what one call writes */
-    uint8_t *images; /* of each segment, what its writer sees, or else what is committed: the guard of who has it locked,
-                        and the lock of events where it is locked and given back */
+    /* Of each segment, what its writer sees, or else what is committed: it is touched under the guard of who has it
+       locked, which it gets and gives back under the lock of events. */
+    uint8_t *images;
 };
 
 /* Each call of a store that is over answers why it is. */

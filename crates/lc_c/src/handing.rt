@@ -42,7 +42,8 @@ impl Session {
 
     // The transaction that a thread of a node has open in a store that is up.
     fn transaction(&self, node: u16, thread: u16) -> Option<&Tx>
-        ensures some { (tx : Tx) → transaction_in self.now.stage node thread ≡ Some tx → option_copied result ≡ Some tx }
+        ensures some { (tx : Tx) → transaction_in self.now.stage node thread ≡ Some tx
+            → option_copied result ≡ Some tx }
         ensures none { transaction_in self.now.stage node thread ≡ None → option_copied result ≡ None }
     {
         match &self.stage {
@@ -51,7 +52,8 @@ impl Session {
         }
     }
 
-    /// A range is handed over: it is set, and these bytes are written there. It takes memory as `World::set_range` does.
+    /// A range is handed over: it is set, and these bytes are written there. It takes memory as `World::set_range`
+    /// does.
     ///
     /// # Errors
     ///

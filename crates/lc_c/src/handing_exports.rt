@@ -34,7 +34,8 @@ pub extern "C" fn lcrvm_session_lock_draft(
 }
 
 /// Hands the next range of the draft over to the store, if there is one, where the transaction of a thread is open: it
-/// is set there, and gets the bytes that stand in this image of its segment. Where it is refused the draft is as before.
+/// is set there, and gets the bytes that stand in this image of its segment. Where it is refused the draft is as
+/// before.
 #[unsafe(no_mangle)]
 pub extern "C" fn lcrvm_session_hand_over(
     alloc: Global,
@@ -53,7 +54,8 @@ pub extern "C" fn lcrvm_session_hand_over(
 }
 
 /// The transaction of a thread ends, once each range of the draft was handed over: it gets its place in the log, and is
-/// closed there. The draft has no locks then. Where it is refused all is as before; 4 where a range was not handed over.
+/// closed there. The draft has no locks then. Where it is refused all is as before; 4 where a range was not handed
+/// over.
 #[unsafe(no_mangle)]
 pub extern "C" fn lcrvm_session_end(
     alloc: Global,

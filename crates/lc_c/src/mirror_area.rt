@@ -58,13 +58,6 @@ impl MirrorArea {
         })
     }
 
-    /// What a read gives, in place.
-    pub(crate) fn bytes(&self) -> &[u8]
-        ensures { result.now ≡ mirror_now self.now }
-    {
-        self.bytes.as_slice()
-    }
-
     /// So many of them from a position on, where it has them.
     pub(crate) fn window(&self, at: usize, len: usize) -> Option<&[u8]>
         ensures { option_copied result ≡ window_of self.now at len }

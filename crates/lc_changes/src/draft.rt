@@ -96,8 +96,8 @@ impl Draft {
         self.rewind();
     }
 
-    /// The transaction is about to change `len` bytes of a segment, whose image is this, from `offset` on. It answers as
-    /// the store.
+    /// The transaction is about to change `len` bytes of a segment, whose image is this, from `offset` on. It answers
+    /// as the store.
     ///
     /// # Errors
     ///
