@@ -201,9 +201,9 @@ enum lcrvm_status lcrvm_close(struct lcrvm_store *store, struct lcrvm_fault *fau
    call. It flushes all nodes; transactions that are open go on, and what they have changed is not in the copy. The
    copy may be larger: with a geometry it has as many nodes, and no fewer segments, pages and words; what it has more is
    zero. The folder is made where it is missing. MISUSE; UNKNOWN of a number that no copy has: text; EXISTS where one of
-   its names is taken that a store of any size may have;
-   STORE_IN_USE; NO_MEMORY. DEVICE_FAULT is of this store where a flush failed, which ends it, and else of the copy,
-   and then the store goes on. What was made is taken away again as by lcrvm_create; a copy that was cut is no store. */
+   its names is taken that a store of any size may have; STORE_IN_USE; NO_MEMORY. DEVICE_FAULT is of this store where a
+   flush failed, which ends it, and else of the copy, and then the store goes on. What was made is taken away again as
+   by lcrvm_create; a copy that was cut is no store. */
 enum lcrvm_status lcrvm_copy(struct lcrvm_store *store, const char *folder, const struct lcrvm_geometry *geometry);
 
 /* ---- Transactions of a program's threads */
