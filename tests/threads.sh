@@ -56,7 +56,7 @@ tries() {
 }
 
 compile ''
-for mode in commits syncs crowd waits ends faults forks; do tries threads $mode; done
+for mode in commits syncs crowd shares waits ends faults forks; do tries threads $mode; done
 
 # A parent is killed, and its store is opened while its child lives.
 mkfifo "$work/input"
@@ -115,7 +115,7 @@ sanitized() {
     fi
     compile "_$kind" $flags
     tries "threads_$kind" commits 60
-    for mode in crowd waits ends forks; do tries "threads_$kind" $mode; done
+    for mode in crowd shares waits ends forks; do tries "threads_$kind" $mode; done
     tries "threads_$kind" faults 4
     tries "threads_$kind" copies 10
     tries "threads_$kind" cuts 20

@@ -6,6 +6,7 @@
           syncs       16 threads make 480 durable commits where a sync takes 2 ms: at most 250 syncs
           crowd       24 threads, of which 16 can have a transaction, on a log of 64 words: with short waits, aborts,
                       records that are too long, and waits for themselves
+          shares      8 threads call 3 transactions without any order among them
           waits       who waits for whom, in what order, and who would wait for itself
           ends        closes beside others, and faults of other threads
           faults      a sync fails while 16 threads commit
@@ -522,6 +523,110 @@ static int crowd(const char *folder, int count)
         sum += workers[self].count;
     equals(sum_of(store, numbers), sum, "the commits of a crowd");
     CHECK(sum > 0);
+    ANSWERS(lcrvm_close(store, NULL), LCRVM_OK);
+    return wrong != 0;
+}
+
+/* ---- threads that share transactions, though each is to be used by one thread at a time */
+
+enum { SHARERS = 8, SHARED = 3, SHARED_TURNS = 20000, CELL = 8, CELLS = 512 / CELL };
+
+/* Whether the bytes of a cell are equal, as each put leaves them. */
+static bool is_whole(const unsigned char *cell)
+{
+    for (int at = 1; at < CELL; at++)
+        if (cell[at] != cell[0])
+            return false;
+    return true;
+}
+
+static void *share(void *argument)
+{
+    struct worker *worker = argument;
+    uint64_t seed = worker->self * 7919 + 5;
+
+    for (int turn = 0; turn < SHARED_TURNS; turn++) {
+        unsigned char cell[CELL];
+        uint32_t thread, segment, offset;
+        enum lcrvm_status status;
+
+        seed = seed * UINT64_C(6364136223846793005) + UINT64_C(1442695040888963407);
+        thread = (uint32_t)(seed >> 33) % SHARED;
+        segment = thread + 1;
+        offset = (uint32_t)(seed >> 40) % CELLS * CELL;
+        memset(cell, (int)(seed >> 56), CELL);
+        switch ((seed >> 50) % 16) {
+        case 0:
+        case 1:
+            status = lcrvm_begin_transaction(worker->store, 0, thread, &segment, 1, NULL, 0);
+            break;
+        case 2:
+            status = lcrvm_end_transaction(worker->store, 0, thread, (seed >> 55) % 8 == 0, NULL);
+            worker->count += status == LCRVM_OK;
+            break;
+        case 3:
+            status = lcrvm_abort_transaction(worker->store, 0, thread);
+            break;
+        case 4:
+        case 5:
+        case 6:
+        case 7:
+            status = lcrvm_read(worker->store, 0, thread, segment, offset, cell, CELL);
+            CHECK(is_whole(cell));
+            break;
+        default:
+            status = lcrvm_put(worker->store, 0, thread, segment, offset, cell, CELL);
+            break;
+        }
+        if (status != LCRVM_OK)
+            ANSWERS(status, LCRVM_OUT_OF_TURN);
+    }
+    return NULL;
+}
+
+/* Takes what a segment holds, and looks that each cell is whole. */
+static void take_cells(struct lcrvm_store *store, uint32_t segment, unsigned char bytes[CELLS * CELL])
+{
+    uint32_t thread;
+
+    ANSWERS(lcrvm_begin(store, 0, &thread, NULL, 0, &segment, 1, 0), LCRVM_OK);
+    ANSWERS(lcrvm_read(store, 0, thread, segment, 0, bytes, CELLS * CELL), LCRVM_OK);
+    ANSWERS(lcrvm_abort(store, 0, &thread), LCRVM_OK);
+    for (int cell = 0; cell < CELLS; cell++)
+        CHECK(is_whole(bytes + cell * CELL));
+}
+
+/* Each call finds a transaction as another one left it, and the store holds what its commits put. */
+static int shares(const char *folder, int count)
+{
+    static struct worker workers[SHARERS];
+    static unsigned char before[SHARED][CELLS * CELL], then[CELLS * CELL];
+    struct lcrvm_store *store = made_below(folder, "shares", &tight);
+    char path[PATH_BYTES];
+    int64_t commits_made = 0;
+
+    (void)count;
+    alarm(200);
+    for (uint32_t self = 0; self < SHARERS; self++) {
+        workers[self] = (struct worker){.store = store, .self = self};
+        CHECK(pthread_create(&workers[self].thread, NULL, share, &workers[self]) == 0);
+    }
+    join(workers, SHARERS);
+    for (int self = 0; self < SHARERS; self++)
+        commits_made += workers[self].count;
+    CHECK(commits_made > 0);
+    for (uint32_t thread = 0; thread < SHARED; thread++) {
+        enum lcrvm_status status = lcrvm_abort_transaction(store, 0, thread);
+
+        CHECK(status == LCRVM_OK || status == LCRVM_OUT_OF_TURN);
+        take_cells(store, thread + 1, before[thread]);
+    }
+    ANSWERS(lcrvm_close(store, NULL), LCRVM_OK);
+    store = opened(path_below(folder, "shares", path));
+    for (uint32_t thread = 0; thread < SHARED; thread++) {
+        take_cells(store, thread + 1, then);
+        CHECK(memcmp(before[thread], then, sizeof then) == 0);
+    }
     ANSWERS(lcrvm_close(store, NULL), LCRVM_OK);
     return wrong != 0;
 }
@@ -1264,7 +1369,7 @@ static const struct {
     {"faults", faults, 12},    {"forks", forks, 0},        {"lives", lives, 0}, {"runs", runs, 0},
     {"shows", shows, 0},       {"copies", copies, 100},    {"figures", figures, 400},
     {"cuts", cuts, 200},
-    {"crowd", crowd, 0},
+    {"crowd", crowd, 0},       {"shares", shares, 0},
 };
 
 int main(int count, char **arguments)
@@ -1272,7 +1377,7 @@ int main(int count, char **arguments)
     for (size_t i = 0; (count == 3 || count == 4) && i < sizeof modes / sizeof modes[0]; i++)
         if (strcmp(arguments[1], modes[i].name) == 0)
             return modes[i].run(arguments[2], count == 4 ? atoi(arguments[3]) : modes[i].count);
-    fprintf(stderr, "usage: threads_test commits|syncs|crowd|waits|ends|faults|forks|lives|runs|shows|copies|cuts|"
+    fprintf(stderr, "usage: threads_test commits|syncs|crowd|shares|waits|ends|faults|forks|lives|runs|shows|copies|cuts|"
                     "figures FOLDER [N]\n");
     return 2;
 }

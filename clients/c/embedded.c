@@ -506,7 +506,7 @@ static enum lcrvm_status abort_now(struct lcrvm_store *store, uint32_t node, uin
 
     lcrvm_session_abort(&store->session, bounded(node), bounded(thread), &answer);
     status = answered(store, &answer);
-    if (status == LCRVM_OK && begun != NULL)
+    if (status == LCRVM_OK)
         over_now(store, begun);
     return status;
 }
@@ -837,8 +837,12 @@ enum lcrvm_status lcrvm_abort_transaction(struct lcrvm_store *store, uint32_t no
     begun = take_guard(store, node, thread);
     if (begun != NULL && !store->over)
         restore_images(store, begun);
-    status = enter(store) ? done(store, named(store, abort_now(store, node, thread, begun), node, thread, 1))
-                          : not_entered();
+    if (!enter(store))
+        status = not_entered();
+    else {
+        status = begun != NULL ? abort_now(store, node, thread, begun) : refuse_work(store, node, thread, 1);
+        status = done(store, named(store, status, node, thread, 1));
+    }
     give_guard(begun);
     return status;
 }
