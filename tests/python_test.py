@@ -1200,7 +1200,7 @@ class Interrupts(Case):
                 alarm(seconds)
                 with self.assertRaises(Interrupt):
                     waiting.begin()
-                self.assertLess(time.monotonic() - begun, seconds + 2)
+                self.assertLess(time.monotonic() - begun, seconds + 0.6)
             alarm(0.05)
             with self.assertRaises(Interrupt):
                 store.close()

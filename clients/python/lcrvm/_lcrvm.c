@@ -20,8 +20,8 @@
 
 enum { CLOSED = 100, MOST_SEGMENTS = 16, MOST_THREADS = 16, PAGE_BYTES = 256 };
 
-/* Seconds: how long the main thread waits before it looks for signals, at first and at most; how long the end of the
-   interpreter waits for threads that are within a call; and what counts as for ever. */
+/* Seconds: how long the main thread waits before it looks for signals, alone or at first, and at most; how long the
+   end of the interpreter waits for threads that are within a call; and what counts as for ever. */
 static const double first_wait = 0.1, longest_wait = 1, last_wait = 5, for_ever = 4e6;
 
 enum state { NEW, OPEN, COMMITTED, ABORTED, UNKNOWN };
@@ -34,10 +34,11 @@ typedef struct store {
     PyObject_HEAD
     struct lcrvm_store *handle; /* NULL once it is closed */
     struct lcrvm_geometry geometry;
-    unsigned forks;  /* of this process at the opening */
-    unsigned inside; /* calls that run while other threads of Python do */
-    bool closing; /* a thread is within its end */
-    bool ending;  /* the interpreter ends, and no call is begun */
+    unsigned forks;   /* of this process at the opening */
+    unsigned inside;  /* calls that run while other threads of Python do */
+    unsigned waiting; /* threads that wait to begin */
+    bool closing;     /* a thread is within its end */
+    bool ending;      /* the interpreter ends, and no call is begun */
     bool durable;
     double timeout;
     PyObject *path, *weak; /* the list of weak references, from Python 3.9 on */
@@ -372,15 +373,13 @@ static void try_begin(Transaction *self, double seconds, struct lcrvm_fault *why
                                              self->writing_count, self->reading, self->reading_count, milliseconds));
 }
 
-/* Waits for the locks; false if a signal's handler has raised, or if the store was closed meanwhile. A thread that
-   looks for signals loses its turn, so it looks ever less often. */
-static bool begin_waiting(Transaction *self, struct lcrvm_fault *why)
+/* Waits for the locks; false if a signal's handler has raised, or if the store was closed meanwhile. The main thread
+   looks for signals, and loses its turn each time. So it looks ever less often while other threads wait too. */
+static bool wait_for_locks(Transaction *self, double until, struct lcrvm_fault *why)
 {
     const bool is_main = syscall(SYS_gettid) == getpid();
     double begun = now(), most = is_main ? first_wait : for_ever;
-    const double until = begun + self->timeout;
 
-    try_begin(self, 0, why);
     for (; why->status == LCRVM_BUSY && begun < until; begun = now()) {
         const double left = until - begun, wait = left < most ? left : most;
 
@@ -389,9 +388,24 @@ static bool begin_waiting(Transaction *self, struct lcrvm_fault *why)
             return true;
         if (PyErr_CheckSignals() != 0 || !is_live(self->store))
             return false;
-        most = is_main && 2 * most > longest_wait ? longest_wait : 2 * most;
+        if (is_main)
+            most = self->store->waiting == 1 ? first_wait : 2 * most > longest_wait ? longest_wait : 2 * most;
     }
     return true;
+}
+
+/* Begins, now or after a wait of the transaction's timeout at most; false as wait_for_locks says. */
+static bool begin_waiting(Transaction *self, struct lcrvm_fault *why)
+{
+    bool is_answered = true;
+
+    try_begin(self, 0, why);
+    if (why->status == LCRVM_BUSY) {
+        self->store->waiting++;
+        is_answered = wait_for_locks(self, now() + self->timeout, why);
+        self->store->waiting--;
+    }
+    return is_answered;
 }
 
 /* Returns the thread that has a segment, or 0. */
@@ -1169,8 +1183,8 @@ static PyMethodDef transaction_calls[] = {
     CALL("begin", transaction_begin, METH_NOARGS,
          "begin($self, /)\n--\n\nLocks the segments, and returns the transaction. `with` does so by itself.\n\n"
          "If another thread has one of them it waits, for the timeout at most, and then raises Busy. It raises Busy\n"
-         "at once if this thread would wait for itself. A signal's handler runs meanwhile, at most a second late.\n"
-         "After its end a transaction may begin again."),
+         "at once if this thread would wait for itself. A signal's handler runs meanwhile, at most 100 ms late, or a\n"
+         "second if other threads wait too. After its end a transaction may begin again."),
     CALL("commit", transaction_commit, METH_NOARGS,
          "commit($self, /)\n--\n\nCommits, durably unless it was made with durable=False.\n\n"
          "Returns the Commit, or None if nothing was changed. If it raises, the transaction is aborted; but after\n"
