@@ -12,6 +12,7 @@
 /* The C library's own, by the names under which it has them too. */
 void *__libc_malloc(size_t size);
 void *__libc_calloc(size_t count, size_t size);
+void *__libc_memalign(size_t alignment, size_t size);
 void *__libc_realloc(void *block, size_t size);
 void __libc_free(void *block);
 
@@ -57,6 +58,11 @@ void *malloc(size_t size)
 void *calloc(size_t count, size_t size)
 {
     return refused() ? NULL : counted(__libc_calloc(count, size));
+}
+
+void *aligned_alloc(size_t alignment, size_t size)
+{
+    return refused() ? NULL : counted(__libc_memalign(alignment, size));
 }
 
 void *realloc(void *block, size_t size)
