@@ -115,7 +115,9 @@ sanitized() {
     fi
     compile "_$kind" $flags
     tries "threads_$kind" commits 60
-    for mode in crowd shares waits ends forks; do tries "threads_$kind" $mode; done
+    for mode in crowd shares waits ends; do tries "threads_$kind" $mode; done
+    # In a child the address sanitizer's allocator may wait for a thread that only the parent has.
+    [ "$kind" != thread ] || tries "threads_$kind" forks
     tries "threads_$kind" faults 4
     tries "threads_$kind" copies 10
     tries "threads_$kind" cuts 20
