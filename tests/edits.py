@@ -283,7 +283,9 @@ class Said:
         found = []
         for it in functions:
             folder = "proofs/" + "/".join(re.sub(r"<.*?>", "", it).split("::")[1:]) + "/"
-            found += re.findall(rf"^(?:\./)?{re.escape(folder)}\S+: error: (.*)$", self.text, re.M)
+            # (an error goes on in the lines below it that are indented)
+            whole = re.findall(rf"^(?:\./)?{re.escape(folder)}\S+: error: (.*(?:\n  .*)*)", self.text, re.M)
+            found += [re.sub(r"\n +", " ", it) for it in whole]
         return found
 
 
