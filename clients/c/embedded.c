@@ -276,19 +276,6 @@ static enum lcrvm_status open_in(struct lcrvm_store *store, const char *path, co
     return status == LCRVM_OK ? make_images(store) : status;
 }
 
-/* Initialises the lock of events. Where the system has it, who waits for it spins first. */
-static void init_events(pthread_mutex_t *events)
-{
-    pthread_mutexattr_t attributes;
-
-    pthread_mutexattr_init(&attributes);
-#ifdef PTHREAD_ADAPTIVE_MUTEX_INITIALIZER_NP
-    pthread_mutexattr_settype(&attributes, PTHREAD_MUTEX_ADAPTIVE_NP);
-#endif
-    pthread_mutex_init(events, &attributes);
-    pthread_mutexattr_destroy(&attributes);
-}
-
 static struct lcrvm_store *new_store(void)
 {
     struct lcrvm_store *store = follows_forks ? aligned_alloc(CACHE_LINE, sizeof *store) : NULL;
@@ -297,7 +284,7 @@ static struct lcrvm_store *new_store(void)
         return NULL;
     memset(store, 0, sizeof *store);
     store->forks = forks;
-    init_events(&store->events);
+    pthread_mutex_init(&store->events, NULL);
     pthread_cond_init(&store->idle, NULL);
     for (uint32_t node = 0; node < MOST_NODES; node++)
         for (uint32_t thread = 0; thread < MOST_THREADS; thread++)
@@ -377,7 +364,7 @@ static bool enter(struct lcrvm_store *store)
         return false;
     }
     atomic_fetch_add(&store->within, 1);
-    pthread_mutex_lock(&store->events);
+    lock_events(store);
     if (!store->over)
         return true;
     told(is_over(store));

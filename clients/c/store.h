@@ -48,6 +48,34 @@ struct lcrvm_store {
     uint8_t *images;
 };
 
+/* Who wants the lock spins before it sleeps: so many rounds, each with twice the pauses of the one before, up to so
+   many. That is longer than most events take, and far less than a truncation. */
+enum { SPIN_ROUNDS = 40, LEAST_PAUSES = 4, MOST_PAUSES = 64 };
+
+/* Tells the processor that the thread spins. */
+static void pause_once(void)
+{
+#if defined(__x86_64__) || defined(__i386__)
+    __builtin_ia32_pause();
+#elif defined(__aarch64__)
+    __asm__ volatile("yield");
+#endif
+}
+
+static void lock_events(struct lcrvm_store *store)
+{
+    unsigned pauses = LEAST_PAUSES;
+
+    for (int round = 0; round < SPIN_ROUNDS; round++) {
+        if (pthread_mutex_trylock(&store->events) == 0)
+            return;
+        for (unsigned pause = 0; pause < pauses; pause++)
+            pause_once();
+        pauses = pauses < MOST_PAUSES ? 2 * pauses : pauses;
+    }
+    pthread_mutex_lock(&store->events);
+}
+
 /* Each call of a store that is over answers why it is. */
 static enum lcrvm_status is_over(const struct lcrvm_store *store)
 {
@@ -100,7 +128,7 @@ static bool sync_area(struct lcrvm_store *store, uint32_t place)
     synced = make_stable(store->kept.of[place], fdatasync);
     reason = errno;
     if (store->shared)
-        pthread_mutex_lock(&store->events);
+        lock_events(store);
     store->stable[place] = synced;
     errno = reason;
     return synced;
