@@ -83,6 +83,14 @@ public:
     void read(uint32_t segment, uint32_t offset, void *bytes, uint32_t length) const {
         check(lcrvm_read(at(), node_, number_, segment, offset, bytes, length));
     }
+    const void *bytes(uint32_t segment) const {
+        const void *found = nullptr;
+        return check(lcrvm_bytes(at(), node_, number_, segment, &found, nullptr)), found;
+    }
+    void *change(uint32_t segment, uint32_t offset, uint32_t length) {
+        void *found = nullptr;
+        return check(lcrvm_change(at(), node_, number_, segment, offset, length, &found)), found;
+    }
     template <class T> void put(uint32_t segment, uint32_t offset, const T &value) {
         static_assert(std::is_trivially_copyable_v<T>);
         write(segment, offset, &value, sizeof value);

@@ -135,6 +135,18 @@ int main(int, char **words) {
         again.abort();
     }
     holds("what was moved", shown(*store), 20);
+
+    // What is changed in place is there once it is committed, and as before after an abort.
+    for (bool commits : {true, false}) {
+        lcrvm::transaction t(*store, {1}, {2});
+        *static_cast<int64_t *>(t.change(1, 0, 8)) += 2;
+        holds("bytes in place", *static_cast<const int64_t *>(t.bytes(1)), commits ? 22 : 24);
+        refuses("a change of what is only read", LCRVM_READ_ONLY, "", [&] { t.change(2, 0, 8); });
+        refuses("bytes of no segment", LCRVM_UNKNOWN, "segment 3: the store has 1 to 2", [&] { t.bytes(3); });
+        if (commits)
+            t.commit();
+    }
+    holds("what was changed in place", shown(*store), 22);
     put(*store, 10, false);
     store.reset();
 
