@@ -285,7 +285,6 @@ static struct lcrvm_store *new_store(void)
     memset(store, 0, sizeof *store);
     store->forks = forks;
     pthread_mutex_init(&store->events, NULL);
-    pthread_cond_init(&store->idle, NULL);
     for (uint32_t node = 0; node < MOST_NODES; node++)
         for (uint32_t thread = 0; thread < MOST_THREADS; thread++)
             pthread_mutex_init(&store->begun[node][thread].guard, NULL);
@@ -305,7 +304,6 @@ static void free_memory(struct lcrvm_store *store)
 static void free_store(struct lcrvm_store *store)
 {
     release_descriptors(&store->kept);
-    pthread_cond_destroy(&store->idle);
     pthread_mutex_destroy(&store->events);
     for (uint32_t node = 0; node < MOST_NODES; node++)
         for (uint32_t thread = 0; thread < MOST_THREADS; thread++)

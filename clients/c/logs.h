@@ -7,21 +7,68 @@
 
 /* ---- the files */
 
+/* Who waits for the files: for its turn at them, or until so many records of the node are stable. */
+struct turn {
+    uint32_t node;
+    uint64_t wanted; /* none: it wants the files themselves */
+    bool has_come, is_done;
+    pthread_cond_t said;
+    struct turn *next;
+};
+
+enum { THE_FILES = 0 };
+
+/* Whether a thread that waits has what it wants without a turn: its records are stable, or the store is over. */
+static bool needs_no_turn(const struct lcrvm_store *store, const struct turn *turn)
+{
+    return store->over || (turn->wanted != THE_FILES && store->acked[turn->node] >= turn->wanted);
+}
+
+/* Lets those go on who need no turn any more, and gives the files to the first of the others. */
+static void give_files(struct lcrvm_store *store)
+{
+    struct turn **at = &store->turns, *turn;
+
+    while ((turn = *at) != NULL)
+        if (needs_no_turn(store, turn)) {
+            *at = turn->next;
+            turn->is_done = true;
+            pthread_cond_signal(&turn->said);
+        } else
+            at = &turn->next;
+    turn = store->turns;
+    store->busy = turn != NULL;
+    if (turn != NULL) {
+        store->turns = turn->next;
+        turn->has_come = true;
+        pthread_cond_signal(&turn->said);
+    }
+}
+
+/* Waits for a turn at the files, after all who came before: true where it has come, and the thread is at the files.
+   Else so many records of the node are stable, or the store is over. */
+static bool take_turn(struct lcrvm_store *store, uint32_t node, uint64_t wanted)
+{
+    struct turn turn = {.node = node, .wanted = wanted, .has_come = !store->busy};
+    struct turn **last = &store->turns;
+
+    store->busy = true;
+    if (turn.has_come)
+        return true;
+    pthread_cond_init(&turn.said, NULL);
+    while (*last != NULL)
+        last = &(*last)->next;
+    *last = &turn;
+    while (!turn.has_come && !turn.is_done)
+        pthread_cond_wait(&turn.said, &store->events);
+    pthread_cond_destroy(&turn.said);
+    return turn.has_come;
+}
+
 /* Waits until no other thread is at the files. */
 static enum lcrvm_status take_files(struct lcrvm_store *store)
 {
-    while (store->busy)
-        pthread_cond_wait(&store->idle, &store->events);
-    if (store->over)
-        return is_over(store);
-    store->busy = true;
-    return LCRVM_OK;
-}
-
-static void give_files(struct lcrvm_store *store)
-{
-    store->busy = false;
-    pthread_cond_broadcast(&store->idle);
+    return take_turn(store, 0, THE_FILES) ? LCRVM_OK : is_over(store);
 }
 
 /* ---- flushes */
@@ -44,8 +91,8 @@ static enum lcrvm_status flush_now(struct lcrvm_store *store, uint32_t node)
     return LCRVM_OK;
 }
 
-/* Makes stable what the node has committed so far. Who comes while another thread flushes waits for it, and then
-   one of those who wait flushes for all. */
+/* Makes stable what the node has committed so far. Who comes while another thread flushes waits for it, and then the
+   first of those who wait flushes for all. */
 static enum lcrvm_status flush_shared(struct lcrvm_store *store, uint32_t node)
 {
     uint64_t wanted;
@@ -54,17 +101,15 @@ static enum lcrvm_status flush_shared(struct lcrvm_store *store, uint32_t node)
     if (node >= store->geometry.nodes)
         return failed(LCRVM_UNKNOWN, "");
     wanted = store->records[node];
-    while (status == LCRVM_OK && store->acked[node] < wanted) {
-        if (store->busy) {
-            pthread_cond_wait(&store->idle, &store->events);
-            status = store->over ? is_over(store) : LCRVM_OK;
-        } else {
-            store->busy = store->shared = true;
-            status = flush_now(store, node);
-            store->shared = false;
-            give_files(store);
-        }
-    }
+    if (store->acked[node] >= wanted)
+        return LCRVM_OK;
+    if (!take_turn(store, node, wanted))
+        return store->over ? is_over(store) : LCRVM_OK;
+    store->shared = true;
+    while (status == LCRVM_OK && store->acked[node] < wanted)
+        status = flush_now(store, node);
+    store->shared = false;
+    give_files(store);
     return status;
 }
 

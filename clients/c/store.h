@@ -15,6 +15,7 @@
 #include <time.h>
 
 struct waiter;
+struct turn;
 
 struct lcrvm_store {
     struct handle session;
@@ -27,9 +28,9 @@ struct lcrvm_store {
 
     atomic_uint within;     /* so many calls are on their way, of whatever thread */
     pthread_mutex_t events; /* held around each event, and while what is below is read or changed */
-    pthread_cond_t idle;    /* said where `busy` ends */
     bool busy;              /* a thread is at the files: who is to call one waits */
     bool shared;            /* that thread gives `events` back while it syncs */
+    struct turn *turns;     /* who waits for the files, in turn */
     struct waiter *waiters; /* who waits to begin, in turn */
 
     struct lcrvm_counters counted[MOST_NODES];
